@@ -1,0 +1,3 @@
+pub mod Billionths
+pub mod Clock
+pub mod Frames

@@ -1,0 +1,3 @@
+pub mod Hda
+pub mod Format
+pub mod Accepted
