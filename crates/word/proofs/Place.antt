@@ -75,11 +75,11 @@ module _ (n at v : ℕ) (l : List ℕ) (fits : at + n ≤ length l) where
   unfolding wordAt
   word-elsewhere m i h =
       ap (λ (x : List ℕ). valueOf (take m (drop i x))) (store-put n at v l)
-      ∙ ap valueOf (put.part-elsewhere at (bytesOf n v) l room m i (rw length-bytes h))
+      ∙ ap valueOf (put.put-part-elsewhere at (bytesOf n v) l room m i (rw length-bytes h))
 
   pub byte-elsewhere : (i : ℕ) → (i < at) ⊎ (at + n ≤ i) → getD (storeAt n at v l) i 0 ≡ getD l i 0
   byte-elsewhere i h =
-      ap (λ (x : List ℕ). getD x i 0) (store-put n at v l) ∙ put.byte-elsewhere at (bytesOf n v) l room i (rw length-bytes h)
+      ap (λ (x : List ℕ). getD x i 0) (store-put n at v l) ∙ put.put-byte-elsewhere at (bytesOf n v) l room i (rw length-bytes h)
 
   -- a second store at the same place wins
   pub store-over : (w : ℕ) → storeAt n at w (storeAt n at v l) ≡ storeAt n at w l

@@ -60,13 +60,13 @@ module _ (at : ℕ) (bs l : List ℕ) (fits : at + length bs ≤ length l) where
       ∙ ap (λ (k : ℕ). drop k l) e
 
   -- a part, and a byte, before or past it
-  pub part-elsewhere : (n i : ℕ) → (i + n ≤ at) ⊎ (at + length bs ≤ i) → take n (drop i (putAt at bs l)) ≡ take n (drop i l)
-  part-elsewhere n i (inl h) = sym (drop-take i n (putAt at bs l)) ∙ ap (drop i) (put-before (i + n) h) ∙ drop-take i n l
-  part-elsewhere n i (inr h) = ap (take n) (put-after i h)
+  pub put-part-elsewhere : (n i : ℕ) → (i + n ≤ at) ⊎ (at + length bs ≤ i) → take n (drop i (putAt at bs l)) ≡ take n (drop i l)
+  put-part-elsewhere n i (inl h) = sym (drop-take i n (putAt at bs l)) ∙ ap (drop i) (put-before (i + n) h) ∙ drop-take i n l
+  put-part-elsewhere n i (inr h) = ap (take n) (put-after i h)
 
-  pub byte-elsewhere : (i : ℕ) → (i < at) ⊎ (at + length bs ≤ i) → getD (putAt at bs l) i 0 ≡ getD l i 0
-  byte-elsewhere i (inl h) = sym (getD-take at (putAt at bs l) i 0 h) ∙ ap (λ (x : List ℕ). getD x i 0) (put-before at (omega arith)) ∙ getD-take at l i 0 h
-  byte-elsewhere i (inr h) =
+  pub put-byte-elsewhere : (i : ℕ) → (i < at) ⊎ (at + length bs ≤ i) → getD (putAt at bs l) i 0 ≡ getD l i 0
+  put-byte-elsewhere i (inl h) = sym (getD-take at (putAt at bs l) i 0 h) ∙ ap (λ (x : List ℕ). getD x i 0) (put-before at (omega arith)) ∙ getD-take at l i 0 h
+  put-byte-elsewhere i (inr h) =
       rw add-zero at (sym (getD-drop i (putAt at bs l) 0 0) ∙ ap (λ (x : List ℕ). getD x 0 0) (put-after i h) ∙ getD-drop i l 0 0)
 
   -- what is put over it wins

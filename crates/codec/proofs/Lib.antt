@@ -1,0 +1,7 @@
+-- Laws for the functions' proofs; what every command keeps; where the device does what HDA 1.0a says, and where not.
+pub mod Laws
+pub mod WellFormed
+pub mod Choices
+pub mod Agreement
+pub mod Witnesses
+pub mod Coverage
