@@ -1,0 +1,317 @@
+//! The judge: runs devices against each other and says where they part.
+use harness::coverage::Coverage;
+use harness::device::{Amended, Reference};
+use harness::generate::Generator;
+use harness::lockstep::{DEFAULT_MEMORY, Lockstep, Parting, Run, run_ops, run_seed};
+use harness::ops::{Op, execute, number, parse_log, result_line};
+use harness::shrink::shrink;
+use harness::side::Side;
+use harness::trace;
+use std::collections::BTreeMap;
+use std::process::ExitCode;
+use std::time::{Duration, Instant};
+
+const USAGE: &str = "\
+judge lockstep --first SEED --count N --length L [--tame]
+    N random sequences of L calls, one for each seed from SEED on: the reference against the amended oracle.
+    Fails if they part at a call that met none of document 01's differences. --tame keeps all addresses in range.
+judge soak SECONDS [--first SEED]
+    The same for a time, wild and tame by turns.
+judge generate SEED LENGTH [--tame]
+    Prints the op log of a seed with the reference's results.
+judge shrink SEED LENGTH [--tame] | judge shrink FILE
+    Prints a small op log on which the two still part as they do in the sequence of a seed, or in a file.
+judge run FILE [--side reference|amended]
+    Runs an op log and prints each call with its result.
+judge trace FILE
+    Replays a driver's trace on both, with time passing between its lines.
+judge --help";
+
+/// Unexplained partings that are shown in full.
+const SHOWN: usize = 5;
+const PROGRESS: Duration = Duration::from_secs(10);
+/// Calls of a sequence in a soak.
+const SOAK_LENGTH: usize = 400;
+/// Time between two lines of a trace.
+const TRACE_STEP: u64 = 100_000;
+/// Guest memory of a trace: what the driver's addresses need.
+const TRACE_MEMORY: usize = 1 << 20;
+
+fn main() -> ExitCode {
+    let words: Vec<String> = std::env::args().skip(1).collect();
+    match command(&words) {
+        Ok(true) => ExitCode::SUCCESS,
+        Ok(false) => ExitCode::FAILURE,
+        Err(error) => {
+            eprintln!("judge: {error}");
+            ExitCode::from(2)
+        }
+    }
+}
+
+fn command(words: &[String]) -> Result<bool, String> {
+    let options = Options::parse(words)?;
+    if let Some(fault) = amended::FAULT {
+        eprintln!("the amended oracle has the seeded fault {fault}");
+    }
+    compare::<Reference, Amended>(options)
+}
+
+/// The commands, for two sides.
+fn compare<L: Side, R: Side>(mut options: Options) -> Result<bool, String> {
+    match options.word()?.as_str() {
+        "lockstep" => {
+            let (first, count, length) = (options.named("--first")?, options.named("--count")?, options.named("--length")? as usize);
+            options.end()?;
+            Ok(lockstep::<L, R>(first, count, length, options.tame))
+        }
+        "soak" => {
+            let (seconds, first) = (options.number()?, options.named("--first").unwrap_or(1));
+            options.end()?;
+            Ok(soak::<L, R>(Duration::from_secs(seconds), first))
+        }
+        "generate" => {
+            let (seed, length) = (options.number()?, options.number()? as usize);
+            options.end()?;
+            generate(seed, length, options.tame);
+            Ok(true)
+        }
+        "shrink" => shrink_command::<L, R>(options),
+        "run" => run(options),
+        "trace" => {
+            let text = read(&options.word()?)?;
+            options.end()?;
+            replay::<L, R>(&text)
+        }
+        "--help" | "help" => {
+            println!("{USAGE}");
+            Ok(true)
+        }
+        unknown => Err(format!("no command {unknown}\n{USAGE}")),
+    }
+}
+
+/// The words of the command line: options by name, the rest in order.
+struct Options {
+    words: std::vec::IntoIter<String>,
+    named: BTreeMap<String, String>,
+    tame: bool,
+}
+
+impl Options {
+    fn parse(words: &[String]) -> Result<Self, String> {
+        let mut options = Self { words: Vec::new().into_iter(), named: BTreeMap::new(), tame: false };
+        let mut rest = Vec::new();
+        let mut words = words.iter();
+        while let Some(word) = words.next() {
+            match word.as_str() {
+                "--tame" => options.tame = true,
+                "--first" | "--count" | "--length" | "--side" => {
+                    let value = words.next().ok_or_else(|| format!("{word} without a value"))?;
+                    options.named.insert(word.clone(), value.clone());
+                }
+                _ => rest.push(word.clone()),
+            }
+        }
+        options.words = rest.into_iter();
+        Ok(options)
+    }
+
+    fn word(&mut self) -> Result<String, String> {
+        self.words.next().ok_or_else(|| format!("too few words\n{USAGE}"))
+    }
+
+    fn number(&mut self) -> Result<u64, String> {
+        let word = self.word()?;
+        number(&word).ok_or_else(|| format!("no number: {word}"))
+    }
+
+    fn named(&mut self, name: &str) -> Result<u64, String> {
+        let word = self.named.remove(name).ok_or_else(|| format!("{name} is missing\n{USAGE}"))?;
+        number(&word).ok_or_else(|| format!("no number: {word}"))
+    }
+
+    fn end(&mut self) -> Result<(), String> {
+        match self.words.next().or_else(|| self.named.pop_first().map(|(name, _)| name)) {
+            Some(word) => Err(format!("{word} is not understood here\n{USAGE}")),
+            None => Ok(()),
+        }
+    }
+}
+
+fn read(path: &str) -> Result<String, String> {
+    std::fs::read_to_string(path).map_err(|error| format!("{path}: {error}"))
+}
+
+/// What many sequences gave.
+struct Tally {
+    start: Instant,
+    shown: Instant,
+    sequences: u64,
+    coverage: Coverage,
+    /// Partings by the differences that explain them.
+    explained: BTreeMap<String, u64>,
+    unexplained: u64,
+}
+
+impl Tally {
+    fn new() -> Self {
+        let now = Instant::now();
+        Self { start: now, shown: now, sequences: 0, coverage: Coverage::default(), explained: BTreeMap::new(), unexplained: 0 }
+    }
+
+    fn sequence<L: Side, R: Side>(&mut self, seed: u64, length: usize, tame: bool) {
+        let run = run_seed::<L, R>(seed, length, tame, &mut self.coverage);
+        self.sequences += 1;
+        if let Some(parting) = run.parting {
+            self.part(seed, length, tame, &parting);
+        }
+        if self.shown.elapsed() >= PROGRESS {
+            self.shown = Instant::now();
+            eprintln!("{}", self.summary());
+        }
+    }
+
+    fn part(&mut self, seed: u64, length: usize, tame: bool, parting: &Parting) {
+        if parting.is_explained() {
+            *self.explained.entry(parting.fired.to_string()).or_default() += 1;
+            return;
+        }
+        self.unexplained += 1;
+        if self.unexplained <= SHOWN as u64 {
+            println!("seed {seed}: {parting}  to shrink it: judge shrink {seed} {length}{}", if tame { " --tame" } else { "" });
+        }
+    }
+
+    fn summary(&self) -> String {
+        let (ops, seconds) = (self.coverage.ops(), self.start.elapsed().as_secs_f64());
+        format!(
+            "{} sequences, {ops} calls, {} partings explained, {} unexplained, {:.0} calls a second",
+            self.sequences,
+            self.explained.values().sum::<u64>(),
+            self.unexplained,
+            ops as f64 / seconds
+        )
+    }
+
+    /// Prints everything; true if every parting is explained.
+    fn report(&self) -> bool {
+        print!("{}", self.coverage);
+        for (differences, count) in &self.explained {
+            println!("{count:>9}  parting by {differences}");
+        }
+        println!("{}", self.summary());
+        self.unexplained == 0
+    }
+}
+
+fn lockstep<L: Side, R: Side>(first: u64, count: u64, length: usize, tame: bool) -> bool {
+    let mut tally = Tally::new();
+    for seed in first..first.saturating_add(count) {
+        tally.sequence::<L, R>(seed, length, tame);
+    }
+    tally.report()
+}
+
+fn soak<L: Side, R: Side>(time: Duration, first: u64) -> bool {
+    let mut tally = Tally::new();
+    let mut seed = first;
+    while tally.start.elapsed() < time {
+        tally.sequence::<L, R>(seed, SOAK_LENGTH, seed.is_multiple_of(2));
+        seed += 1;
+    }
+    println!("seeds {first} to {}", seed - 1);
+    tally.report()
+}
+
+fn generate(seed: u64, length: usize, tame: bool) {
+    let mut generator = Generator::new(seed, tame);
+    let mut side = Reference::new(true, DEFAULT_MEMORY);
+    for _ in 0..length {
+        let op = generator.next_op();
+        let answer = execute(&mut side, &op);
+        generator.observe(&op, &answer);
+        println!("{op}\n{}", result_line(&side, &op, &answer));
+    }
+}
+
+fn shrink_command<L: Side, R: Side>(mut options: Options) -> Result<bool, String> {
+    let word = options.word()?;
+    let run = match number(&word) {
+        Some(seed) => {
+            let length = options.number()? as usize;
+            run_seed::<L, R>(seed, length, options.tame, &mut Coverage::default())
+        }
+        None => {
+            let ops = parse_log(&read(&word)?)?;
+            let parting = run_ops::<L, R>(&ops);
+            Run { ops, parting }
+        }
+    };
+    options.end()?;
+    let Some(parting) = run.parting else {
+        println!("no parting");
+        return Ok(true);
+    };
+    let shows = |ops: &[Op]| run_ops::<L, R>(ops).is_some_and(|found| found.fired == parting.fired);
+    let small = shrink(&run.ops, shows);
+    for op in &small {
+        println!("{op}");
+    }
+    for line in run_ops::<L, R>(&small).map(|found| found.to_string()).unwrap_or_default().lines() {
+        println!("# {line}");
+    }
+    Ok(parting.is_explained())
+}
+
+fn run(mut options: Options) -> Result<bool, String> {
+    let ops = parse_log(&read(&options.word()?)?)?;
+    let side = options.named.remove("--side").unwrap_or_else(|| "reference".into());
+    options.end()?;
+    match side.as_str() {
+        "reference" => run_side::<Reference>(&ops),
+        "amended" => run_side::<Amended>(&ops),
+        _ => return Err(format!("no side {side}")),
+    }
+    Ok(true)
+}
+
+fn run_side<S: Side>(ops: &[Op]) {
+    let mut side = S::new(true, DEFAULT_MEMORY);
+    for op in ops {
+        let answer = execute(&mut side, op);
+        println!("{op}\n{}", result_line(&side, op, &answer));
+    }
+}
+
+/// A driver's trace on both sides; the host pulls and feeds as time passes. True if the sides never part.
+fn replay<L: Side, R: Side>(text: &str) -> Result<bool, String> {
+    let steps = trace::parse(text)?;
+    let mut lockstep = Lockstep::<L, R>::new();
+    let (mut reads, mut as_recorded) = (0, 0);
+    let mut calls = vec![(Op::New { microphone: true, memory: TRACE_MEMORY }, None)];
+    for (line, step) in steps.iter().enumerate() {
+        calls.push((step.op.clone(), step.recorded.map(|_| step)));
+        calls.push((Op::Advance(TRACE_STEP), None));
+        if line.is_multiple_of(20) {
+            calls.extend([(Op::Pull(2048), None), (Op::Feed(vec![line as u8; 400]), None)]);
+        }
+    }
+    for (op, read) in calls {
+        let answer = match lockstep.step(&op) {
+            Ok(answer) => answer,
+            Err(parting) => {
+                print!("{parting}");
+                return Ok(false);
+            }
+        };
+        if let Some(step) = read {
+            reads += 1;
+            let value = (answer.value as u32).to_le_bytes();
+            as_recorded += u64::from(step.matches(if answer.bytes.is_empty() { &value } else { &answer.bytes }));
+        }
+    }
+    print!("{}", lockstep.coverage);
+    println!("{} lines, no parting; {as_recorded} of {reads} reads gave the value of the trace, which knows other times", steps.len());
+    Ok(true)
+}
