@@ -75,7 +75,7 @@ module _ (n : Node) (w : WellFormedNode n) where
       (set-kept (longVerbOf x) (payloadOf x) low))))
 
 -- ---- the codec
-abbrev Each : List Node → Type 0
+abbrev pub Each : List Node → Type 0
 Each l = (i : ℕ) → i < length l → WellFormedNode (getD l i absent)
 
 -- `n` in the place of a record; past the end nothing is stored

@@ -3,6 +3,7 @@ pub mod Parameters
 pub mod Nodes
 pub mod Codecs
 pub mod WellFormed
+pub mod Bytes
 pub mod HdaParameters
 pub mod HdaVerbs
 pub mod Exceptions

@@ -3,10 +3,13 @@
 // specs/Hda*.antt say what HDA 1.0a has, and proofs/Agreement.antt where the two agree.
 
 ghost use mathlib.Core.Path.{_≡_};
-ghost use Prim.Native.Nat.{_*_, _<_};
+ghost use Prim.Native.Nat.{_+_, _*_, _≤_, _<_};
+ghost use lib.ListN.{length};
+ghost use Rattle.word.specs.Place.{putAt};
 ghost use Rattle.codec.specs.Parameters.{parameterOf};
 ghost use Rattle.codec.specs.Nodes.{putIf, putSides, setAmplifierOf, amplifierOf, setFormatOf, formatOf, setOf, getOf, entryOf, nodeVerbOf};
 ghost use Rattle.codec.specs.Codecs.{freshNodeOf, freshOf, verbOf, liveOf, connectedOf, amplifyOf};
+ghost use Rattle.codec.specs.Bytes.{recordAt, codecAt, storeCodecAt};
 
 // What parameter `p` of `node` replies (the Rust's `Codec::parameter`).
 pub fn parameter(node: u32, p: u32) -> u32
@@ -263,6 +266,26 @@ impl Node {
             & (pin.bytes[5] == 0)
             & (pin.bytes[7] / mask % 2 == 1)
     }
+
+    // The record in the 24 bytes at `at`.
+    fn load(bytes: &[u8], at: usize) -> Node
+        requires { ⌜ at + 24 ≤ length (now bytes) ⌝ }
+        ensures { λ r. ⌜ r ≡ recordAt at (now (bytes .entry)) ⌝ }
+    {
+        let mut own = [0u8; 24];
+        let end = at + 24;
+        bytes::copy(&bytes[at..end], &mut own);
+        Node { bytes: own }
+    }
+
+    // The record into the 24 bytes at `at`.
+    fn store(self, bytes: &mut [u8], at: usize)
+        requires { ⌜ at + 24 ≤ length (now bytes) ⌝ }
+        ensures { λ _. ⌜ now (bytes .exit) ≡ putAt at (self .bytes) (now (bytes .entry)) ⌝ }
+    {
+        let end = at + 24;
+        bytes::copy(&self.bytes, &mut bytes[at..end]);
+    }
 }
 
 // What a command puts on the link: nothing, or one word (`wordsOf`).
@@ -359,6 +382,35 @@ impl Codec {
         } else {
             let n = self.nodes[2];
             gain::amplify(pcm, gain::gain_of(n.bytes[2]), gain::gain_of(n.bytes[3]));
+        }
+    }
+
+    // The codec in the 144 bytes at `at`, as a saved state and the C functions have it.
+    pub fn load(bytes: &[u8], at: usize) -> Codec
+        requires { ⌜ at + 144 ≤ length (now bytes) ⌝ }
+        ensures { λ r. ⌜ r ≡ codecAt at (now (bytes .entry)) ⌝ }
+    {
+        let root = Node::load(bytes, at);
+        let group = Node::load(bytes, at + 24);
+        let output = Node::load(bytes, at + 48);
+        let output_pin = Node::load(bytes, at + 72);
+        let input = Node::load(bytes, at + 96);
+        let input_pin = Node::load(bytes, at + 120);
+        Codec {
+            nodes: [root, group, output, output_pin, input, input_pin],
+        }
+    }
+
+    // The codec into the 144 bytes at `at`.
+    pub fn store(self, bytes: &mut [u8], at: usize)
+        requires { ⌜ at + 144 ≤ length (now bytes) ⌝ }
+        ensures { λ _. ⌜ now (bytes .exit) ≡ storeCodecAt at self (now (bytes .entry)) ⌝ }
+    {
+        let mut i = 0;
+        while i < 6 {
+            let n = self.nodes[i];
+            n.store(bytes, at + 24 * i);
+            i += 1;
         }
     }
 }

@@ -1,0 +1,24 @@
+-- `Codec::load` is `codecAt`: six records, each read at its place.
+use borrow.Author.Needs.{needs}
+use Rattle.codec.specs.Bytes.{codecAt}
+use Rattle.codec.proofs.Codec.load.Statement.{statement}
+use Rattle.codec.proofs.Codec.load.Tie as tie
+
+pub load-spec : {M : Type 1} → statement M
+unfolding codecAt
+load-spec =
+    tie.close
+    (tie.spec
+    -- each record's place and what its load requires
+    (λ c κs. search needs) (λ c. search needs) (λ c κs. search needs) (λ c. search needs) (λ c κs. search needs) (λ c. search needs)
+    (λ c κs. search needs) (λ c. search needs) (λ c κs. search needs) (λ c. search needs) (λ c κs. search needs)
+    (λ c.
+    let pin = c .before .before in
+    rw (
+      pin .before .before .before .load .ensures,
+      pin .before .before .load2 .ensures,
+      pin .before .load3 .ensures,
+      pin .load4 .ensures,
+      c .before .load5 .ensures,
+      c .load6 .ensures,
+    )))
