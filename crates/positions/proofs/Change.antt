@@ -3,12 +3,9 @@ use Prim.Native.Nat.{ℕ, _+_, _-_, _*_, _^_, _<_, _≤_, suc}
 use mathlib.Core.Path.{_≡_, sym, ap, _∙_}
 use mathlib.Core.List.{List, [], _∷_, _++_}
 use native.Mathlib.Omega.{arith}
-use native.Mathlib.Nat.{zero-add}
-use lib.ListN.{length, take, drop, length-drop, take-append-drop}
-use lib.Seq.{length-take-le}
-use Rattle.word.specs.Place.{putAt}
-use Rattle.word.proofs.Put.{length-put, put-there, put-after}
+use lib.ListN.{length, drop}
 use Rattle.word.proofs.Place.{length-store, word-store, store-before, store-after}
+use Rattle.word.proofs.Shifts.{shift-none, length-shift, shift-there, shift-after}
 use Rattle.positions.specs.Positions.{positionsOf, pushOf, retireOf}
 use Rattle.positions.proofs.View.{positions-suc, positions-take, drop-positions}
 
@@ -33,32 +30,21 @@ module _ (n v : ℕ) (l : List ℕ) (fits : 8 * n + 8 ≤ length l) where
 -- nothing retires
 pub retire-none : (n : ℕ) (l : List ℕ) → retireOf 0 n l ≡ l
 unfolding retireOf
-retire-none n l = take-append-drop (8 * (n - 0)) l
+retire-none n l = shift-none (8 * (n - 0)) l
 
 module _ (k n : ℕ) (l : List ℕ) (few : k ≤ n) (fits : 8 * n ≤ length l) where
-  left : List ℕ
-  left = take (8 * (n - k)) (drop (8 * k) l)
-
-  length-left : length left ≡ 8 * (n - k)
-  unfolding left
-  length-left = length-take-le (8 * (n - k)) (drop (8 * k) l) (omega (arith, length-drop (8 * k) l))
-
-  room : 0 + length left ≤ length l
-  room = omega (arith, length-left)
-
-  -- a retirement puts the positions that are left at the front
-  retire-put : retireOf k n l ≡ putAt 0 left l
-  unfolding retireOf putAt left
-  retire-put = ap (λ (i : ℕ). left ++ drop i l) (sym (zero-add (length left) ∙ length-left))
+  room : 8 * k + 8 * (n - k) ≤ length l
+  room = omega arith
 
   pub length-retire : length (retireOf k n l) ≡ length l
-  length-retire = ap length retire-put ∙ length-put 0 left l room
+  unfolding retireOf
+  length-retire = length-shift (8 * k) (8 * (n - k)) l room
 
   pub retire-drops : positionsOf (n - k) (retireOf k n l) ≡ drop k (positionsOf n l)
-  unfolding left
+  unfolding retireOf
   retire-drops =
-      positions-take (n - k) (retireOf k n l) (drop (8 * k) l) (ap (take (8 * (n - k))) retire-put ∙ rw length-left at (put-there 0 left l room))
-      ∙ sym (drop-positions k n l few)
+      positions-take (n - k) (retireOf k n l) (drop (8 * k) l) (shift-there (8 * k) (8 * (n - k)) l room) ∙ sym (drop-positions k n l few)
 
   pub retire-keeps-rest : (i : ℕ) → 8 * (n - k) ≤ i → drop i (retireOf k n l) ≡ drop i l
-  retire-keeps-rest i h = ap (drop i) retire-put ∙ put-after 0 left l room i (omega (arith, length-left))
+  unfolding retireOf
+  retire-keeps-rest = shift-after (8 * k) (8 * (n - k)) l room

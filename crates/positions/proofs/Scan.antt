@@ -1,14 +1,13 @@
--- The turns of the loops: a scan at place `i`, where `x` is read, and a shift at byte `j`. Assumes nothing.
+-- The turns of a scan: at place `i`, where `x` is read, and at the end. Assumes nothing.
 use Prim.Native.Nat.{ℕ, suc, _+_, _*_, _<_, _≤_}
 use mathlib.Core.Path.{_≡_, sym, ap, _∙_}
-use mathlib.Core.List.{List, [], _∷_, _++_, append-assoc}
+use mathlib.Core.List.{List, [], _∷_}
 use mathlib.Core.Bool.{true, false}
 use native.Mathlib.Omega.{arith}
 use native.Mathlib.Numerals.{add-one}
-use native.Mathlib.Nat.{add-comm}
 use borrow.Author.Tests.{le-leb, lt-leb, lt-ltb, le-ltb}
-use lib.ListN.{length, take, drop, getD, set, drop-of-length-le, length-drop}
-use lib.Seq.{drop-cons, take-suc, set-at, getD-drop, getD-append-add, length-take-le}
+use lib.ListN.{length, drop, drop-of-length-le}
+use lib.Seq.{drop-cons}
 use Rattle.word.specs.Place.{wordAt}
 use Rattle.positions.specs.Positions.{positionsOf, upToOf, risesOf}
 use Rattle.positions.proofs.View.{length-positions, getD-positions}
@@ -56,29 +55,3 @@ module _ (n : ℕ) (l : List ℕ) (i : ℕ) (h : n ≤ i) where
   pub rise-end : (lo hi : ℕ) → risesOf lo (drop i (positionsOf n l)) hi ≡ true
   unfolding risesOf
   rise-end lo hi = ap (λ (xs : List ℕ). risesOf lo xs hi) over
-
--- the first `j` bytes from byte `from` on, over the first `j` bytes
-abbrev pub shifted : List ℕ → ℕ → ℕ → List ℕ
-shifted l from j = take j (drop from l) ++ drop j l
-
--- what is read next is not yet overwritten, and the store takes the shift one byte further
-pub shift-turn : (l₀ l : List ℕ) (from j : ℕ) → l ≡ shifted l₀ from j → from + j < length l₀
-    → set l j (getD l (from + j) 0) ≡ shifted l₀ from (j + 1)
-shift-turn l₀ l from j e h =
-    let s : List ℕ = drop from l₀ in
-    let hs : j < length (drop from l₀) = omega (arith, length-drop from l₀) in
-    let front : length (take j (drop from l₀)) ≡ j = length-take-le j (drop from l₀) (omega arith) in
-    let place : length (take j (drop from l₀)) + from ≡ from + j = omega arith in
-    let next : getD (shifted l₀ from j) (from + j) 0 ≡ getD s j 0
-    = ap (λ (i : ℕ). getD (shifted l₀ from j) i 0) (sym place)
-    ∙ getD-append-add (take j s) (drop j l₀) from 0
-    ∙ getD-drop j l₀ from 0
-    ∙ ap (λ (i : ℕ). getD l₀ i 0) (add-comm j from)
-    ∙ sym (getD-drop from l₀ j 0) in
-    ap (λ (x : List ℕ). set x j (getD x (from + j) 0)) e
-    ∙ ap (λ (v : ℕ). set (shifted l₀ from j) j v) next
-    ∙ ap (λ (x : List ℕ). set (take j s ++ x) j (getD s j 0)) (drop-cons l₀ j 0 (omega arith))
-    ∙ set-at (take j s) (getD l₀ j 0) (drop (suc j) l₀) (getD s j 0) j front
-    ∙ sym (append-assoc (take j s) (getD s j 0 ∷ []) (drop (suc j) l₀))
-    ∙ ap (λ (x : List ℕ). x ++ drop (suc j) l₀) (sym (take-suc s j 0 hs))
-    ∙ ap (λ (i : ℕ). take i s ++ drop i l₀) (sym (add-one j))

@@ -1,12 +1,13 @@
 -- A stream's completion list: little-endian 64-bit positions in lent bytes, eight bytes each from the start. The Rust's
 -- `completions: VecDeque<u64>`; the pending positions of document 01, The book of demand 3.
 use Prim.Native.Nat.{ℕ, zero, suc, _+_, _-_, _*_}
-use mathlib.Core.List.{List, [], _∷_, _++_}
+use mathlib.Core.List.{List, [], _∷_}
 use mathlib.Core.Bool.{Bool, true, cond, _&&_}
 use lib.ListN.{take, drop}
 use lib.Dec.{ltb, leb}
 use Rattle.word.specs.Value.{valueOf}
 use Rattle.word.specs.Place.{storeAt}
+use Rattle.word.specs.Shift.{shiftOf}
 
 -- the first `n` positions
 unfoldable pub positionsOf : ℕ → List ℕ → List ℕ
@@ -36,4 +37,4 @@ pushOf n v l = storeAt 8 (8 * n) v l
 -- the lent bytes without the first `k` of `n` positions: the bytes of the others go to the front, and what stands from byte
 -- 8 * (n - k) on stays (the Rust's `pop_front`, `k` times)
 unfoldable pub retireOf : ℕ → ℕ → List ℕ → List ℕ
-retireOf k n l = take (8 * (n - k)) (drop (8 * k) l) ++ drop (8 * (n - k)) l
+retireOf k n l = shiftOf (8 * k) (8 * (n - k)) l

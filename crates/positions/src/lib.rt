@@ -64,14 +64,5 @@ pub fn retire(list: &mut [u8], n: usize, k: usize)
     requires { ⌜ (k ≤ n) × (8 * n ≤ length (now list)) ⌝ }
     ensures { λ _. ⌜ now (list .exit) ≡ retireOf k n (now (list .entry)) ⌝ }
 {
-    if k == 0 {
-        return;
-    }
-    let from = 8 * k;
-    let end = 8 * (n - k);
-    let mut j = 0;
-    while j < end {
-        list[j] = list[from + j];
-        j += 1;
-    }
+    word::shift(list, 8 * k, 8 * (n - k))
 }

@@ -34,7 +34,7 @@ module _ (at : ℕ) (bs l : List ℕ) (fits : at + length bs ≤ length l) where
   bytes-put b h = bytes-append (take at l) _ (bytes-take at l h) (bytes-append bs _ b (bytes-drop (at + length bs) l h))
 
   -- up to the end of what was put
-  put-front : take (at + length bs) (putAt at bs l) ≡ take at l ++ bs
+  pub put-front : take (at + length bs) (putAt at bs l) ≡ take at l ++ bs
   put-front = ap (take (at + length bs)) split ∙ take-at (take at l ++ bs) (drop (at + length bs) l) (at + length bs) length-front
 
   -- what was put stands there

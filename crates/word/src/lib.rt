@@ -1,4 +1,4 @@
-// Little-endian words in lent bytes, and small helpers on numbers. Knows nothing of the device.
+// Little-endian words in lent bytes, bytes moved down, and small helpers on numbers. Knows nothing of the device.
 //
 // A word of 4 bytes is made of two of 2, and one of 8 of two of 4, so that one law over the width proves each; the compiler makes
 // one load or one store of it.
@@ -6,6 +6,7 @@ ghost use mathlib.Core.Path.{_≡_};
 ghost use Prim.Native.Nat.{_+_, _-_, _*_, _≤_, _<_, min, max};
 ghost use lib.ListN.{length};
 ghost use Rattle.word.specs.Place.{wordAt, storeAt};
+ghost use Rattle.word.specs.Shift.{shiftOf};
 
 // Words out of bytes. `&[u8]` also lends an array, be it a field of a struct or behind a reference.
 
@@ -96,6 +97,21 @@ pub fn put32_in(file: &mut File, at: usize, v: u32)
     ensures { λ _. ⌜ now (file .exit) ≡ storeAt 4 at v (now (file .entry)) ⌝ }
 {
     put32(file, at, v)
+}
+
+// Moves the `count` bytes from `from` on to the front, in one pass. With from = 0 nothing moves.
+pub fn shift(s: &mut [u8], from: usize, count: usize)
+    requires { ⌜ from + count ≤ length (now s) ⌝ }
+    ensures { λ _. ⌜ now (s .exit) ≡ shiftOf from count (now (s .entry)) ⌝ }
+{
+    if from == 0 {
+        return;
+    }
+    let mut i = 0;
+    while i < count {
+        s[i] = s[from + i];
+        i += 1;
+    }
 }
 
 // Numbers.

@@ -1,0 +1,33 @@
+-- The two ways out of feed and of pull: refused, and done. Assumes nothing.
+use Prim.Native.Nat.{ℕ, _/_}
+use mathlib.Core.Path.{_≡_}
+use mathlib.Core.List.{List}
+use borrow.Author.Tests.{eq-eqb, ne-eqb}
+use lib.ListN.{length}
+use Rattle.host.specs.declared.Host.{Host}
+use Rattle.host.specs.declared.Queue.{Queue}
+use Rattle.host.specs.Queues.{movedOf, takenOf, putOf, takeIntoOf}
+use Rattle.host.specs.Hosts.{captureStream, playbackStream, queueAt, withQueue, partOf, withPart}
+use Rattle.host.specs.Calls.{frameCheckOf, fedOf, feedAnswer, feedOf, pullAnswer, pullOf}
+
+module _ (h : Host) (space frames : List ℕ) (number : ℕ) (e : number ≡ frameCheckOf h (length space) (length frames)) where
+  pub feed-refused : (number ≡ 0 → ⊥) → feedAnswer (fedOf number 0 h) space ≡ feedOf h space frames
+  unfolding feedOf
+  feed-refused n = rw (← e, ne-eqb number 0 n)
+
+  pub feed-done : number ≡ 0 → (count : ℕ) (q : Queue) (part : List ℕ)
+      → movedOf count q part ≡ putOf (queueAt h captureStream) (partOf captureStream space) frames (length frames)
+      → feedAnswer (fedOf 0 (count / 4) (withQueue h captureStream q)) (withPart captureStream space part) ≡ feedOf h space frames
+  unfolding feedOf
+  feed-done z count q part m = rw (← e, eq-eqb number 0 z, ← m)
+
+module _ (h : Host) (space into : List ℕ) (number : ℕ) (e : number ≡ frameCheckOf h (length space) (length into)) where
+  pub pull-refused : (number ≡ 0 → ⊥) → pullAnswer (fedOf number 0 h) space into ≡ pullOf h space into
+  unfolding pullOf
+  pull-refused n = rw (← e, ne-eqb number 0 n)
+
+  pub pull-done : number ≡ 0 → (count : ℕ) (q : Queue) (part into′ : List ℕ)
+      → takenOf (movedOf count q part) into′ ≡ takeIntoOf (queueAt h playbackStream) (partOf playbackStream space) into
+      → pullAnswer (fedOf 0 (count / 4) (withQueue h playbackStream q)) (withPart playbackStream space part) into′ ≡ pullOf h space into
+  unfolding pullOf
+  pull-done z count q part into′ m = rw (← e, eq-eqb number 0 z, ← m)

@@ -1,0 +1,86 @@
+-- The host end record: the two opening switches, the downstream count, and the queues (document 01, "Host end, added").
+use Prim.Native.Nat.{ℕ, _+_, _*_, _/_, _%_}
+use mathlib.Core.Bool.{Bool, true, false, cond, _&&_}
+use mathlib.Core.List.{List, [], _∷_, _++_}
+use lib.ListN.{take, drop, getD, set, replicate}
+use lib.Dec.{leb, ltb, eqb}
+use Rattle.host.specs.declared.Queue.{Queue}
+use Rattle.host.specs.declared.Host.{Host}
+use Rattle.host.specs.declared.Opening.{Opening}
+use Rattle.host.specs.Queues.{capacity, queue, closed, validQueue, contentsOf}
+
+-- how many streams the box has; the first half captures, the second half plays
+abbrev pub streams : ℕ
+streams = 2
+
+abbrev pub captures : ℕ → Bool
+captures i = ltb i (streams / 2)
+
+-- the stream that the host feeds, and the one that it pulls from
+abbrev pub captureStream : ℕ
+captureStream = 0
+
+abbrev pub playbackStream : ℕ
+playbackStream = streams / 2
+
+-- bytes that the host holds beyond the queue, at most
+abbrev pub maxDownstream : ℕ
+maxDownstream = 14336
+
+abbrev pub host : Bool → Bool → ℕ → List Queue → Host
+host playback capture downstream queues = record { playback = playback; capture = capture; downstream = downstream; queues = queues }
+
+-- a new host end: both switches off, downstream 0, every stream closed
+unfoldable pub freshOf : Host
+freshOf = host false false 0 (replicate streams closed)
+
+abbrev pub queueAt : Host → ℕ → Queue
+queueAt h i = getD (h .queues) i closed
+
+abbrev pub withQueue : Host → ℕ → Queue → Host
+withQueue h i q = host (h .playback) (h .capture) (h .downstream) (set (h .queues) i q)
+
+abbrev pub every : (Queue → Bool) → List Queue → Bool
+every p [] = true
+every p (q ∷ qs) = p q && every p qs
+
+-- number 12's condition on a downstream count
+abbrev pub validDownstream : ℕ → Bool
+validDownstream n = leb n maxDownstream && eqb (n % 4) 0
+
+-- what a host end record must meet, else number 9
+unfoldable pub validOf : Host → Bool
+validOf h = validDownstream (h .downstream) && every validQueue (h .queues)
+
+-- the switch that makes a stream's opening fail
+abbrev pub failsOf : Host → ℕ → Bool
+failsOf h i = cond (captures i) (h .capture) (h .playback)
+
+-- what an opening leaves: whether the stream is open, and the host end
+abbrev pub openingOf : Bool → Host → Opening
+openingOf ok h = record { ok = ok; host = h }
+
+-- A stream that is open stays so, its queue too; else the switch decides, and opening empties the queue (the Rust's `Hda::open_stream`).
+unfoldable pub openOf : Host → ℕ → Opening
+openOf h i =
+    cond (queueAt h i .live) (openingOf true h)
+    (cond (failsOf h i) (openingOf false h) (openingOf true (withQueue h i (queue true 0))))
+
+-- closing empties the queue
+unfoldable pub closeOf : Host → ℕ → Host
+closeOf h i = withQueue h i closed
+
+-- Bytes not yet heard: those queued and those downstream; a capture stream, and a closed one, has none (the Rust's `update_position`).
+unfoldable pub latencyOf : Host → ℕ → ℕ
+latencyOf h i = cond (captures i) 0 (cond (queueAt h i .live) (queueAt h i .length + h .downstream) 0)
+
+-- a stream's part of the lent queue space, and the space with another part in its place
+abbrev pub partOf : ℕ → List ℕ → List ℕ
+partOf i space = take capacity (drop (capacity * i) space)
+
+abbrev pub withPart : ℕ → List ℕ → List ℕ → List ℕ
+withPart i space part = take (capacity * i) space ++ (part ++ drop capacity (drop (capacity * i) space))
+
+-- the bytes queued for a stream
+abbrev pub queuedOf : Host → List ℕ → ℕ → List ℕ
+queuedOf h space i = contentsOf (queueAt h i) (partOf i space)

@@ -1,0 +1,5 @@
+pub mod Streams
+pub mod Plans
+pub mod Pieces
+pub mod Ends
+pub mod Update
