@@ -2,12 +2,42 @@
 use super::*;
 
 impl Hda {
+    /// The rate of a format word that the device takes.
+    pub fn probe_format(word: u16) -> Option<u32> {
+        Self::format(word).ok().map(|format| format.rate)
+    }
+
     pub fn probe_amplify(&self, input: bool, pcm: &mut [u8]) {
         self.codec.amplify(input, pcm, 2)
     }
 
     pub fn probe_codec(&mut self) -> &mut [u8; 144] {
         &mut self.codec.bytes
+    }
+
+    pub fn probe_verb(&mut self, command: u32) -> Option<u32> {
+        self.codec.verb(command)
+    }
+
+    pub fn probe_connected(&self, input: bool, tag: u8, format: u16) -> bool {
+        self.codec.connected(input, tag, format)
+    }
+
+    /// The wall clock's ticks and billionths of the next tick.
+    pub fn probe_clock(&mut self) -> (&mut u64, &mut u64) {
+        (&mut self.wall_ticks, &mut self.wall_fraction)
+    }
+
+    /// The frame time of stream 0, the input, or 1, the output.
+    pub fn probe_time(&mut self, index: usize) -> &mut u64 {
+        &mut self.streams[index].fraction
+    }
+
+    /// The two expressions by which `advance` adds to a stream's frame time, for the rates that no format word has.
+    pub fn probe_accrue(fraction: u64, nanos: u64, rate: u32) -> u64 {
+        let elapsed = Duration::from_nanos(nanos);
+        let frames = elapsed.as_nanos() * u128::from(rate) + u128::from(fraction);
+        frames.min(u128::from(MAX_PENDING_FRAMES) * 1_000_000_000 + frames % 1_000_000_000) as u64
     }
 
     pub fn probe_asserted(&self) -> bool {

@@ -1,0 +1,76 @@
+// One line of the recorded answers against what the proved code answers.
+ghost use mathlib.Core.Path.{_≡_};
+ghost use Prim.Native.Nat.{_*_, _≤_};
+ghost use lib.ListN.{length};
+ghost use Rattle.replay.specs.Verdict.{ownOf, verdictOf, lineVerdictOf, countedOf};
+
+pub enum Verdict {
+    Same,
+    Differs,
+    Unreadable,
+}
+
+// A record's digits against those of the record with the proved code's answer in it, which are left in `own`. `bytes` is room to work in.
+fn judge(letter: u8, text: &[u8], bytes: &mut [u8], own: &mut [u8]) -> Verdict
+    requires { ⌜ length (now text) ≡ 2 * length (now bytes) ⌝ }
+    requires { ⌜ length (now own) ≡ length (now text) ⌝ }
+    ensures { λ r. ⌜ r ≡ verdictOf letter (now (text .entry)) ⌝ }
+    ensures { λ _. ⌜ now (own .exit) ≡ ownOf letter (now (text .entry)) ⌝ }
+{
+    crate::hex::decode(text, bytes);
+    let known = crate::answers::answer(letter, bytes);
+    crate::hex::encode(bytes, own);
+    if !known {
+        return Verdict::Unreadable;
+    }
+    if check::same(text, own) {
+        Verdict::Same
+    } else {
+        Verdict::Differs
+    }
+}
+
+// A line: a letter, then digits, two to a byte. What `judge` leaves stands at the start of `own`.
+pub fn judge_line(line: &[u8], bytes: &mut [u8], own: &mut [u8]) -> Verdict
+    requires { ⌜ length (now line) ≤ length (now bytes) ⌝ }
+    requires { ⌜ length (now line) ≤ length (now own) ⌝ }
+    ensures { λ r. ⌜ r ≡ lineVerdictOf (now (line .entry)) ⌝ }
+{
+    if line.len() == 0 {
+        return Verdict::Unreadable;
+    }
+    let digits = line.len() - 1;
+    if digits % 2 == 1 {
+        return Verdict::Unreadable;
+    }
+    let half = digits / 2;
+    judge(line[0], &line[1..], &mut bytes[..half], &mut own[..digits])
+}
+
+// How many lines there were, and how many of them the proved code answers in another way or cannot read.
+pub struct Tally {
+    pub lines: u64,
+    pub differ: u64,
+}
+
+impl Tally {
+    pub fn counted(self, verdict: Verdict) -> Tally
+        ensures { λ r. ⌜ r ≡ countedOf self verdict ⌝ }
+    {
+        let lines = std::num::wrapping_add_u64(self.lines, 1);
+        match verdict {
+            Verdict::Same => Tally {
+                lines,
+                differ: self.differ,
+            },
+            Verdict::Differs => Tally {
+                lines,
+                differ: std::num::wrapping_add_u64(self.differ, 1),
+            },
+            Verdict::Unreadable => Tally {
+                lines,
+                differ: std::num::wrapping_add_u64(self.differ, 1),
+            },
+        }
+    }
+}
