@@ -1,8 +1,9 @@
 // Runs the recorded answers of the Rust on the proved code. The file `answers` has one answer a line, with what the leaf was handed
-// (specs/Answers.antt); `leaves record` of ../../rust writes it. The last line that is printed says how many lines there were and how many
+// (specs/Answers.antt); `leaves record` of rust/leaves writes it. The last line that is printed says how many lines there were and how many
 // of them the proved code answers in another way; the first ten of those are printed, each with the proved code's own answer.
 //
-// Nothing can be proved of what a file holds. So what a line gives is in verdict.rt, and here each function is proved to be safe and to end.
+// No contract can say what a file holds. So what a line gives is stated in verdict.rt, and of what reads and prints it is proved that it is
+// safe and ends.
 mod answers;
 mod hex;
 mod lines;

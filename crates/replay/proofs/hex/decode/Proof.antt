@@ -1,5 +1,5 @@
 -- `decode` meets its contract. The loop's invariant: what is decoded, then what the rest of the text gives, is what the whole gives. Assumes nothing.
-use Prim.Native.Nat.{_+_, _*_, _-_, _≤_}
+use Prim.Native.Nat.{_*_, _-_, _≤_}
 use mathlib.Core.Path.{_≡_, refl}
 use mathlib.Core.List.{_++_}
 use native.Mathlib.Omega.{arith}

@@ -1,5 +1,5 @@
 -- `encode` meets its contract. The loop's invariant: what is written, then the digits of the rest of the bytes, are the digits of all. Assumes nothing.
-use Prim.Native.Nat.{_+_, _*_, _-_, _≤_}
+use Prim.Native.Nat.{_*_, _-_, _≤_}
 use mathlib.Core.Path.{_≡_, refl}
 use mathlib.Core.List.{_++_}
 use native.Mathlib.Omega.{arith}
