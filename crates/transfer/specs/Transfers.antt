@@ -1,0 +1,75 @@
+-- One transfer of at most a period, between guest memory and a stream's host queue: document 01, "Stream transfer" and "Host end, added"; the Rust's
+-- `transfer` from its first test to the host's queue.
+use Prim.Native.Nat.{ℕ, _-_, _≤_}
+use mathlib.Core.Bool.{Bool, false, cond}
+use mathlib.Core.List.{List, _++_}
+use lib.ListN.{length, take, replicate}
+use Rattle.gain.specs.declared.Gain.{Gain}
+use Rattle.gain.specs.Gain.{amplifiedOf}
+use Rattle.stream.specs.declared.Stream.{Stream}
+use Rattle.stream.specs.declared.Cyclic.{Cyclic}
+use Rattle.stream.specs.Plans.{readyOf}
+use Rattle.stream.specs.Pieces.{Out, stateOf, piecesOf}
+use Rattle.host.specs.declared.Queue.{Queue}
+use Rattle.host.specs.Queues.{capacity, Moved, movedOf, putOf, takeOf}
+use Rattle.transfer.specs.declared.Transferred.{Transferred}
+
+-- all that a transfer leaves: the answer, the list, the queue's part of the lent space, and guest memory
+pub record Transfer : Type 0 where
+  pub transferred : Transferred
+  pub list : List ℕ
+  pub part : List ℕ
+  pub memory : List ℕ
+
+abbrev pub leftOf : Transferred → List ℕ → List ℕ → List ℕ → Transfer
+leftOf r l part m = record { transferred = r; list = l; part = part; memory = m }
+
+abbrev pub transferOut : Bool → Bool → Stream → Queue → List ℕ → List ℕ → List ℕ → Transfer
+transferOut ok full s q l part m = leftOf (record { ok = ok; full = full; stream = s; queue = q }) l part m
+
+-- what the pieces left, beside a queue and its part
+abbrev pub withPieces : Out → Queue → List ℕ → Transfer
+withPieces o q part = transferOut (o .ok) (o .full) (o .state .stream) q (o .state .list) part (o .state .memory)
+
+abbrev pub silence : ℕ → List ℕ
+silence n = replicate n 0
+
+-- A capture's samples. A connected stream takes frames out of its queue, ends a short read in silence, and amplifies; another takes none and is silent.
+abbrev pub takenOf : Bool → Queue → List ℕ → ℕ → Moved
+takenOf connected q part count = cond connected (takeOf q part count) (movedOf 0 q part)
+
+abbrev pub capturedOf : Bool → Gain → Gain → List ℕ → Moved → ℕ → List ℕ
+capturedOf connected left right part m count =
+    cond connected (amplifiedOf left right (take (m .count) part ++ silence (count - m .count))) (silence count)
+
+-- frames that were taken stay taken where a piece fails
+unfoldable pub captureOf : Cyclic → Stream → Queue → Bool → Gain → Gain → List ℕ → List ℕ → List ℕ → ℕ → Transfer
+captureOf g s q connected left right l part m count =
+    let taken = takenOf connected q part count in
+    withPieces (piecesOf count g count (stateOf s l m (capturedOf connected left right part taken count) 0)) (taken .queue) (taken .part)
+
+-- A playback's samples go behind those queued, amplified where the stream is connected, else as silence. A failed transfer queues nothing.
+abbrev pub heardOf : Bool → Gain → Gain → List ℕ → ℕ → List ℕ
+heardOf connected left right pcm count = cond connected (amplifiedOf left right pcm) (silence count)
+
+abbrev pub queuedOf : Out → Moved → Queue → List ℕ → Transfer
+queuedOf o put q part = cond (o .ok) (withPieces o (put .queue) (put .part)) (withPieces o q part)
+
+unfoldable pub playbackOf : Cyclic → Stream → Queue → Bool → Gain → Gain → List ℕ → List ℕ → List ℕ → ℕ → Transfer
+playbackOf g s q connected left right l part m count =
+    let o = piecesOf count g count (stateOf s l m (silence count) 0) in
+    queuedOf o (putOf q part (heardOf connected left right (o .state .pcm) count) count) q part
+
+-- a cyclic buffer that is not ready fails the transfer before anything is moved or taken
+unfoldable pub transferOf : Cyclic → Stream → Queue → Bool → Gain → Gain → List ℕ → List ℕ → List ℕ → ℕ → Transfer
+transferOf g s q connected left right l part m count =
+    cond (readyOf g)
+    (cond (g .capture) (captureOf g s q connected left right l part m count) (playbackOf g s q connected left right l part m count))
+    (transferOut false false s q l part m)
+
+-- what a transfer requires: at most a period, a queue within its capacity, and room for every position and for the queue
+pub record TransferNeeds (q : Queue) (count : ℕ) (list part : List ℕ) : Type 0 where
+  pub short : count ≤ 1024
+  pub queued : q .length ≤ capacity
+  pub long : 34816 ≤ length list
+  pub space : capacity ≤ length part
