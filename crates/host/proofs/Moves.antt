@@ -29,23 +29,24 @@ copied n l s d h e =
 
 module _ (q : Queue) (part : List ℕ) where
   -- `s` and `j` are the bytes lent and the length of their place, as the code computes them
-  pub put-moved : (bytes s part′ : List ℕ) (count j : ℕ) → count ≡ fittingOf q (length bytes) → count ≤ length bytes → q .length + count ≤ length part → s ≡ take count bytes → j ≡ count
-      → part′ ≡ take (length s) s ++ drop (length s) (take j (drop (q .length) part))
+  pub put-moved : (bytes s part′ : List ℕ) (count j : ℕ) → count ≡ fittingOf q (length bytes) → count ≤ length bytes → q .length + count ≤ length part
+      → s ≡ take count bytes → j ≡ count → part′ ≡ take (length s) s ++ drop (length s) (take j (drop (q .length) part))
       → movedOf count (queue (q .live) (q .length + count)) (take (q .length) part ++ (part′ ++ drop j (drop (q .length) part))) ≡ putOf q part bytes (length bytes)
   unfolding putOf putAt
   put-moved bytes s part′ count j ec hb hp es ej e =
       let own : length (take count bytes) ≡ count = length-take-le count bytes hb in
-      let rest : length (take count (drop (q .length) part)) ≤ count = omega (arith, length-take-le count (drop (q .length) part) (omega (arith, length-drop (q .length) part))) in
+      let after : List ℕ = drop (q .length) part in
+      let rest : length (take count (drop (q .length) part)) ≤ count = omega (arith, length-take-le count after (omega (arith, length-drop (q .length) part))) in
       let there : part′ ≡ take count bytes
       = e
-      ∙ copied count bytes s (take j (drop (q .length) part)) hb es
-      ∙ ap (λ (k : ℕ). take count bytes ++ drop count (take k (drop (q .length) part))) ej
-      ∙ ap (λ (x : List ℕ). take count bytes ++ x) (drop-of-length-le (take count (drop (q .length) part)) rest)
+      ∙ copied count bytes s (take j after) hb es
+      ∙ ap (λ (k : ℕ). take count bytes ++ drop count (take k after)) ej
+      ∙ ap (λ (x : List ℕ). take count bytes ++ x) (drop-of-length-le (take count after) rest)
       ∙ append-nil (take count bytes) in
       rw (← ec, own, there, ej, drop-drop count (q .length) part)
 
-  pub take-moved : (into s part′ into′ : List ℕ) (count : ℕ) → count ≡ min (length into) (q .length) → count ≤ length part → s ≡ take count part → into′ ≡ take (length s) s ++ drop (length s) into
-      → part′ ≡ shiftOf count (q .length - count) part
+  pub take-moved : (into s part′ into′ : List ℕ) (count : ℕ) → count ≡ min (length into) (q .length) → count ≤ length part
+      → s ≡ take count part → into′ ≡ take (length s) s ++ drop (length s) into → part′ ≡ shiftOf count (q .length - count) part
       → takenOf (movedOf count (queue (q .live) (q .length - count)) part′) into′ ≡ takeIntoOf q part into
   unfolding takeIntoOf takeOf
   take-moved into s part′ into′ count ec hp es ei e =

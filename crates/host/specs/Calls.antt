@@ -1,4 +1,5 @@
--- The host's own calls: feed, pull and the three settings, with document 01's numbers 10, 9, 11 and 12 in that order. A refusal changes nothing.
+-- The host's own calls: feed, pull and the three settings (document 01, Host end, added), with the numbers 10, 9, 11 and 12, checked in that
+-- order; a refusal changes nothing (document 01, Numbers returned).
 use Prim.Native.Nat.{ℕ, _*_, _/_, _%_}
 use mathlib.Core.Bool.{Bool, cond}
 use mathlib.Core.List.{List}
@@ -70,6 +71,7 @@ settingOf number h = record { number = number; host = h }
 abbrev pub settledOf : Host → ℕ → Set → Set
 settledOf h space set = cond (eqb (checkOf h space) 0) set (settingOf (checkOf h space) h)
 
+-- the switch that makes openings for playback fail, and the one for capture
 unfoldable pub playbackFailsOf : Host → ℕ → Bool → Set
 playbackFailsOf h space fails = settledOf h space (settingOf 0 (host fails (h .capture) (h .downstream) (h .queues)))
 

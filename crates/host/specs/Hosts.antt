@@ -9,7 +9,7 @@ use Rattle.host.specs.declared.Host.{Host}
 use Rattle.host.specs.declared.Opening.{Opening}
 use Rattle.host.specs.Queues.{capacity, queue, closed, validQueue, contentsOf}
 
--- how many streams the box has; the first half captures, the second half plays
+-- how many streams the box has; the first half captures, the second half plays (the Rust's stream 0 and stream 1)
 abbrev pub streams : ℕ
 streams = 2
 
@@ -23,14 +23,14 @@ captureStream = 0
 abbrev pub playbackStream : ℕ
 playbackStream = streams / 2
 
--- bytes that the host holds beyond the queue, at most
+-- bytes that the host holds beyond the queue, at most (document 01, Host end, added)
 abbrev pub maxDownstream : ℕ
 maxDownstream = 14336
 
 abbrev pub host : Bool → Bool → ℕ → List Queue → Host
 host playback capture downstream queues = record { playback = playback; capture = capture; downstream = downstream; queues = queues }
 
--- a new host end: both switches off, downstream 0, every stream closed
+-- a new host end: both switches off, downstream 0, every stream closed (document 01, Host end, added)
 unfoldable pub freshOf : Host
 freshOf = host false false 0 (replicate streams closed)
 
@@ -44,15 +44,15 @@ abbrev pub every : (Queue → Bool) → List Queue → Bool
 every p [] = true
 every p (q ∷ qs) = p q && every p qs
 
--- number 12's condition on a downstream count
+-- number 12's condition on a downstream count (document 01, Numbers returned)
 abbrev pub validDownstream : ℕ → Bool
 validDownstream n = leb n maxDownstream && eqb (n % 4) 0
 
--- what a host end record must meet, else number 9
+-- what a host end record must meet, else number 9 (document 01, Numbers returned, below the table)
 unfoldable pub validOf : Host → Bool
 validOf h = validDownstream (h .downstream) && every validQueue (h .queues)
 
--- the switch that makes a stream's opening fail
+-- the switch that makes a stream's opening fail (document 01, Host end, added)
 abbrev pub failsOf : Host → ℕ → Bool
 failsOf h i = cond (captures i) (h .capture) (h .playback)
 
@@ -66,7 +66,7 @@ openOf h i =
     cond (queueAt h i .live) (openingOf true h)
     (cond (failsOf h i) (openingOf false h) (openingOf true (withQueue h i (queue true 0))))
 
--- closing empties the queue
+-- closing empties the queue (document 01, Host end, added)
 unfoldable pub closeOf : Host → ℕ → Host
 closeOf h i = withQueue h i closed
 
@@ -74,7 +74,7 @@ closeOf h i = withQueue h i closed
 unfoldable pub latencyOf : Host → ℕ → ℕ
 latencyOf h i = cond (captures i) 0 (cond (queueAt h i .live) (queueAt h i .length + h .downstream) 0)
 
--- a stream's part of the lent queue space, and the space with another part in its place
+-- a stream's part of the lent queue space, the parts standing in the streams' order, and the space with another part in its place
 abbrev pub partOf : ℕ → List ℕ → List ℕ
 partOf i space = take capacity (drop (capacity * i) space)
 

@@ -8,7 +8,7 @@ use Rattle.word.specs.Place.{putAt}
 use Rattle.word.specs.Shift.{shiftOf}
 use Rattle.host.specs.declared.Queue.{Queue}
 
--- bytes of a queue, at most: two periods
+-- bytes of a queue, at most: two periods (document 01, Host end, added)
 abbrev pub capacity : ℕ
 capacity = 2048
 
@@ -19,7 +19,7 @@ queue live length = record { live = live; length = length }
 abbrev pub closed : Queue
 closed = queue false 0
 
--- at most 2,048 bytes, whole frames, none on a closed stream
+-- at most 2,048 bytes, whole frames, none on a closed stream (document 01, Numbers returned)
 abbrev pub validQueue : Queue → Bool
 validQueue q = leb (q .length) capacity && (eqb (q .length % 4) 0 && (q .live || eqb (q .length) 0))
 
@@ -36,7 +36,7 @@ pub record Moved : Type 0 where
 abbrev pub movedOf : ℕ → Queue → List ℕ → Moved
 movedOf count q part = record { count = count; queue = q; part = part }
 
--- how many of n bytes fit behind those queued; a closed stream takes none
+-- how many of n bytes fit behind those queued; a closed stream takes none (document 01, Host end, added)
 abbrev pub fittingOf : Queue → ℕ → ℕ
 fittingOf q n = cond (q .live) (min n (capacity - q .length)) 0
 
@@ -46,7 +46,8 @@ putOf q part bytes n =
     let count = fittingOf q n in
     movedOf count (queue (q .live) (q .length + count)) (putAt (q .length) (take count bytes) part)
 
--- as many bytes as there are, up to n, leave the front; the others move down once, and what stands behind them stays
+-- As many bytes as there are, up to n, leave the front (document 01, Host end, added). The others move down once, and what stands
+-- behind them stays.
 unfoldable pub takeOf : Queue → List ℕ → ℕ → Moved
 takeOf q part n =
     let count = min n (q .length) in

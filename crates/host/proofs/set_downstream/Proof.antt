@@ -1,9 +1,4 @@
 -- `host::set_downstream` meets its contract: the law of the setters, at `downstream_step`. Assumes nothing.
-use Prim.Native.Nat.{ℕ}
-use base.Stored.{codedℕ}
-use mir.Syntax.{tyInt, w32}
-use mir.Val.{vint}
-use denote.Plain.{UInt, uint-tells}
 use contract.Running.{givenOf, tables, tablesOf}
 use denote.Triple.Spec.{tripleOf}
 use denote.Triple.Table.{entered, cited}
@@ -22,5 +17,5 @@ unfolding code.routine tablesOf
 set-downstream-spec 𝓤 H 𝓜 𝓖 𝓡 =
     entered 𝓤 H (tripleOf 𝓤 H (𝓖 .A) setter.signature (setter.spec 𝓤 H (𝓖 .A) (𝓜 .mem) (𝓡 .run)))
     (tables 𝓤 H 𝓜 𝓡 code.env .C) (tables 𝓤 H 𝓜 𝓡 code.env .Λ) #setter code.function (code.unfolded 𝓤 H 𝓜 𝓡)
-    (law.meets ℕ codedℕ (tyInt w32) (UInt w32 .own) (vint w32) (λ _ _. (tt, tt)) (uint-tells w32) (λ _ g. (tt, record { fits = g .1 })) downstreamOf 𝓤 H (𝓖 .A) (givenOf 𝓤 H 𝓜 𝓖) (tablesOf 𝓤 H 𝓜 (tables 𝓤 H 𝓜 𝓡 code.env)) #step
-    (cited 𝓤 H (law.Step ℕ codedℕ (tyInt w32) (UInt w32 .own) (vint w32) downstreamOf 𝓤 H (𝓖 .A)) 𝓜 𝓡 code.env #step step-def.routine code.calls-host·downstream-step (step-thm.met 𝓤 H 𝓜 𝓖 𝓡)))
+    (law.meets law.count downstreamOf 𝓤 H (𝓖 .A) (givenOf 𝓤 H 𝓜 𝓖) (tablesOf 𝓤 H 𝓜 (tables 𝓤 H 𝓜 𝓡 code.env)) #step
+    (cited 𝓤 H (law.Step law.count downstreamOf 𝓤 H (𝓖 .A)) 𝓜 𝓡 code.env #step step-def.routine code.calls-host·downstream-step (step-thm.met 𝓤 H 𝓜 𝓖 𝓡)))
