@@ -8,10 +8,12 @@ use borrow.Author.Tests.{ltb-false, leb-true, eqb-true, eqb-false}
 use lib.Dec.{ltb, leb, eqb}
 use lib.ListN.{length, drop, length-drop}
 use lib.Seq.{length-take-le}
+use Rattle.word.specs.Parts.{partOf}
 use Rattle.host.specs.declared.Queue.{Queue}
 use Rattle.host.specs.declared.Host.{Host}
 use Rattle.host.specs.Queues.{capacity, closed, validQueue}
-use Rattle.host.specs.Hosts.{streams, every, validDownstream, validOf, queueAt, partOf}
+use Rattle.stream.specs.Box.{streams}
+use Rattle.host.specs.Hosts.{every, validDownstream, validOf, queueAt}
 use Rattle.host.specs.Calls.{checkOf, frameCheckOf}
 use Rattle.host.proofs.Tests.{left, right}
 use Rattle.host.proofs.Every.{every-at}
@@ -55,7 +57,7 @@ module _ (h : Host) (space : List ℕ) (n : ℕ) (e : frameCheckOf h (length spa
   pub frames-room : capacity * streams ≤ length space
   frames-room = checked h (length space) (frames-checked h (length space) n e .passed) .room
 
-  pub frames-ready : (i : ℕ) → i < streams → (queueAt h i .length ≤ capacity) × (capacity ≤ length (partOf i space))
+  pub frames-ready : (i : ℕ) → i < streams → (queueAt h i .length ≤ capacity) × (capacity ≤ length (partOf capacity i space))
   frames-ready i b =
       let room = frames-room in
       let valid = checked h (length space) (frames-checked h (length space) n e .passed) .valid in

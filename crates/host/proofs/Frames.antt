@@ -8,26 +8,28 @@ use native.Mathlib.Omega.{arith}
 use borrow.Author.Tests.{eq-eqb}
 use lib.ListN.{length, take, drop, length-drop}
 use lib.Seq.{length-take-le, getD-set-same, getD-set-other}
+use Rattle.word.specs.Parts.{partOf, withPart}
 use Rattle.host.specs.declared.Queue.{Queue}
 use Rattle.host.specs.declared.Host.{Host}
 use Rattle.host.specs.Queues.{capacity, closed, contentsOf, fittingOf, Moved, putOf, takeOf, takeIntoOf}
-use Rattle.host.specs.Hosts.{streams, captureStream, playbackStream, queueAt, withQueue, partOf, withPart, queuedOf}
+use Rattle.stream.specs.Box.{streams}
+use Rattle.host.specs.Hosts.{captureStream, playbackStream, queueAt, withQueue, queuedOf}
 use Rattle.host.specs.Calls.{frameCheckOf, Feed, fedWith, feedOf, Pull, pulledWith, pullOf}
 use Rattle.host.proofs.Tests.{by-cond}
 use Rattle.host.proofs.Checks.{checked, frames-checked, frames-room, frames-ready, valid-queue}
 use Rattle.host.proofs.Contents.{put-appends, length-put-part, take-front, take-drops, length-take-part}
-use Rattle.host.proofs.Parts.{part-same, part-other}
+use Rattle.word.proofs.Parts.{part-same, part-other}
 use Rattle.host.proofs.Validity.{Valid, queue-conditions}
 
 -- a stream's queue and part anew
 module _ (h : Host) (i : ℕ) (space : List ℕ) (q : Queue) (part : List ℕ) (stream : i < streams) (sized : length (h .queues) ≡ streams) (room : capacity * streams ≤ length space)
     (size : length part ≡ capacity) where
-  pub queued-same : queuedOf (withQueue h i q) (withPart i space part) i ≡ contentsOf q part
-  queued-same = rw (getD-set-same (h .queues) i q closed (omega arith), part-same i space part size (omega arith))
+  pub queued-same : queuedOf (withQueue h i q) (withPart capacity i space part) i ≡ contentsOf q part
+  queued-same = rw (getD-set-same (h .queues) i q closed (omega arith), part-same capacity i space part size (omega arith))
 
-  pub queued-other : (j : ℕ) → (j < i) ⊎ (i < j) → queuedOf (withQueue h i q) (withPart i space part) j ≡ queuedOf h space j
+  pub queued-other : (j : ℕ) → (j < i) ⊎ (i < j) → queuedOf (withQueue h i q) (withPart capacity i space part) j ≡ queuedOf h space j
   queued-other j o =
-      rw (getD-set-other (h .queues) i j q closed (λ e. ⊎-elim (λ b. omega arith) (λ b. omega arith) o), part-other i space part size (omega arith) j o)
+      rw (getD-set-other (h .queues) i j q closed (λ e. ⊎-elim (λ b. omega arith) (λ b. omega arith) o), part-other capacity i space part size (omega arith) j o)
 
 -- whole frames move
 fitting-whole : (q : Queue) (n : ℕ) → Valid q → n % 4 ≡ 0 → 4 * (fittingOf q n / 4) ≡ fittingOf q n
@@ -44,13 +46,13 @@ module _ (h : Host) (space frames : List ℕ) (sized : length (h .queues) ≡ st
     conditions : Valid (queueAt h i)
     conditions = queue-conditions (queueAt h i) (valid-queue h (checked h (length space) (frames-checked h (length space) (length frames) passed .passed) .valid) i)
 
-    part-size : length (partOf i space) ≡ capacity
+    part-size : length (partOf capacity i space) ≡ capacity
     part-size =
         let room = frames-room h space (length frames) passed in
         length-take-le capacity (drop (capacity * i) space) (omega (arith, length-drop (capacity * i) space))
 
   abbrev put : Moved
-  put = putOf (queueAt h captureStream) (partOf captureStream space) frames (length frames)
+  put = putOf (queueAt h captureStream) (partOf capacity captureStream space) frames (length frames)
 
   fed : feedOf h space frames ≡ fedWith h captureStream space put
   unfolding feedOf
@@ -59,7 +61,7 @@ module _ (h : Host) (space frames : List ℕ) (sized : length (h .queues) ≡ st
   put-size : length (put .part) ≡ capacity
   put-size =
       let ready = frames-ready h space (length frames) passed captureStream (omega arith) in
-      length-put-part (queueAt h captureStream) (partOf captureStream space) (ready .0) (ready .1) frames (length frames) (omega arith)
+      length-put-part (queueAt h captureStream) (partOf capacity captureStream space) (ready .0) (ready .1) frames (length frames) (omega arith)
       ∙ part-size captureStream (omega arith)
 
   pub feed-appends : queuedOf (feedOf h space frames .fed .host) (feedOf h space frames .space) captureStream
@@ -70,7 +72,7 @@ module _ (h : Host) (space frames : List ℕ) (sized : length (h .queues) ≡ st
       let whole = fitting-whole (queueAt h captureStream) (length frames) (conditions captureStream (omega arith)) (frames-checked h (length space) (length frames) passed .whole) in
       ap (λ (a : Feed). queuedOf (a .fed .host) (a .space) captureStream) fed
       ∙ queued-same h captureStream space (put .queue) (put .part) (omega arith) sized (frames-room h space (length frames) passed) put-size
-      ∙ put-appends (queueAt h captureStream) (partOf captureStream space) (ready .0) (ready .1) frames (length frames) (omega arith)
+      ∙ put-appends (queueAt h captureStream) (partOf capacity captureStream space) (ready .0) (ready .1) frames (length frames) (omega arith)
       ∙ ap (λ (k : ℕ). queuedOf h space captureStream ++ take k frames) (sym whole)
       ∙ ap (λ (a : Feed). queuedOf h space captureStream ++ take (4 * a .fed .frames) frames) (sym fed)
 
@@ -82,16 +84,16 @@ module _ (h : Host) (space frames : List ℕ) (sized : length (h .queues) ≡ st
 
   -- a pull with a buffer of as many bytes as `frames`
   abbrev took : Moved
-  took = takeOf (queueAt h playbackStream) (partOf playbackStream space) (length frames)
+  took = takeOf (queueAt h playbackStream) (partOf capacity playbackStream space) (length frames)
 
-  pulled : pullOf h space frames ≡ pulledWith h playbackStream space (takeIntoOf (queueAt h playbackStream) (partOf playbackStream space) frames)
+  pulled : pullOf h space frames ≡ pulledWith h playbackStream space (takeIntoOf (queueAt h playbackStream) (partOf capacity playbackStream space) frames)
   unfolding pullOf
   pulled = rw (eq-eqb (frameCheckOf h (length space) (length frames)) 0 passed)
 
   took-size : length (took .part) ≡ capacity
   took-size =
       let ready = frames-ready h space (length frames) passed playbackStream (omega arith) in
-      length-take-part (queueAt h playbackStream) (partOf playbackStream space) (ready .0) (ready .1) (length frames)
+      length-take-part (queueAt h playbackStream) (partOf capacity playbackStream space) (ready .0) (ready .1) (length frames)
       ∙ part-size playbackStream (omega arith)
 
   took-whole : 4 * (took .count / 4) ≡ took .count
@@ -105,7 +107,7 @@ module _ (h : Host) (space frames : List ℕ) (sized : length (h .queues) ≡ st
       let ready = frames-ready h space (length frames) passed playbackStream (omega arith) in
       ap (λ (a : Pull). queuedOf (a .fed .host) (a .space) playbackStream) pulled
       ∙ queued-same h playbackStream space (took .queue) (took .part) (omega arith) sized (frames-room h space (length frames) passed) took-size
-      ∙ take-drops (queueAt h playbackStream) (partOf playbackStream space) (ready .0) (ready .1) (length frames)
+      ∙ take-drops (queueAt h playbackStream) (partOf capacity playbackStream space) (ready .0) (ready .1) (length frames)
       ∙ ap (λ (k : ℕ). drop k (queuedOf h space playbackStream)) (sym took-whole)
       ∙ ap (λ (a : Pull). drop (4 * a .fed .frames) (queuedOf h space playbackStream)) (sym pulled)
 
@@ -115,7 +117,7 @@ module _ (h : Host) (space frames : List ℕ) (sized : length (h .queues) ≡ st
   pull-gives =
       let ready = frames-ready h space (length frames) passed playbackStream (omega arith) in
       ap (λ (a : Pull). a .into) pulled
-      ∙ ap (λ (l : List ℕ). l ++ drop (took .count) frames) (take-front (queueAt h playbackStream) (partOf playbackStream space) (ready .0) (ready .1) (length frames))
+      ∙ ap (λ (l : List ℕ). l ++ drop (took .count) frames) (take-front (queueAt h playbackStream) (partOf capacity playbackStream space) (ready .0) (ready .1) (length frames))
       ∙ ap (λ (k : ℕ). take k (queuedOf h space playbackStream) ++ drop k frames) (sym took-whole)
       ∙ ap (λ (a : Pull). take (4 * a .fed .frames) (queuedOf h space playbackStream) ++ drop (4 * a .fed .frames) frames) (sym pulled)
 

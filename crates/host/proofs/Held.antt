@@ -5,7 +5,7 @@ use lib.ListN.{length, length-map}
 use mir.Val.{Val}
 use denote.Laws.{Is}
 use Rattle.host.specs.declared.Host.{Host}
-use Rattle.host.specs.Hosts.{streams}
+use Rattle.stream.specs.Box.{streams}
 use Rattle.host.proofs.Queue as queue
 use Rattle.host.proofs.Host as host
 

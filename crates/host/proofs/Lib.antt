@@ -1,5 +1,5 @@
 -- The laws of specs/: what a queue's put and take do, the test of every queue, what the checks say, the ways out of feed and pull, and
--- the law that proves the three setters. Then what follows from the definitions alone: the queued bytes, the parts of the lent space,
+-- the law that proves the three setters. Then what follows from the definitions alone: the queued bytes,
 -- that every call leaves a valid host end valid, and what feed and pull do to the streams' bytes.
 pub mod Tests
 pub mod Moves
@@ -9,6 +9,5 @@ pub mod Checks
 pub mod Outcomes
 pub mod Setter
 pub mod Contents
-pub mod Parts
 pub mod Validity
 pub mod Frames

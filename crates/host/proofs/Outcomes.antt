@@ -4,10 +4,11 @@ use mathlib.Core.Path.{_≡_}
 use mathlib.Core.List.{List}
 use borrow.Author.Tests.{eq-eqb, ne-eqb}
 use lib.ListN.{length}
+use Rattle.word.specs.Parts.{partOf, withPart}
 use Rattle.host.specs.declared.Host.{Host}
 use Rattle.host.specs.declared.Queue.{Queue}
-use Rattle.host.specs.Queues.{movedOf, takenOf, putOf, takeIntoOf}
-use Rattle.host.specs.Hosts.{captureStream, playbackStream, queueAt, withQueue, partOf, withPart}
+use Rattle.host.specs.Queues.{capacity, movedOf, takenOf, putOf, takeIntoOf}
+use Rattle.host.specs.Hosts.{captureStream, playbackStream, queueAt, withQueue}
 use Rattle.host.specs.Calls.{frameCheckOf, fedOf, feedAnswer, feedOf, pullAnswer, pullOf}
 
 module _ (h : Host) (space frames : List ℕ) (number : ℕ) (e : number ≡ frameCheckOf h (length space) (length frames)) where
@@ -16,8 +17,8 @@ module _ (h : Host) (space frames : List ℕ) (number : ℕ) (e : number ≡ fra
   feed-refused n = rw (← e, ne-eqb number 0 n)
 
   pub feed-done : number ≡ 0 → (count : ℕ) (q : Queue) (part : List ℕ)
-      → movedOf count q part ≡ putOf (queueAt h captureStream) (partOf captureStream space) frames (length frames)
-      → feedAnswer (fedOf 0 (count / 4) (withQueue h captureStream q)) (withPart captureStream space part) ≡ feedOf h space frames
+      → movedOf count q part ≡ putOf (queueAt h captureStream) (partOf capacity captureStream space) frames (length frames)
+      → feedAnswer (fedOf 0 (count / 4) (withQueue h captureStream q)) (withPart capacity captureStream space part) ≡ feedOf h space frames
   unfolding feedOf
   feed-done z count q part m = rw (← e, eq-eqb number 0 z, ← m)
 
@@ -27,7 +28,7 @@ module _ (h : Host) (space into : List ℕ) (number : ℕ) (e : number ≡ frame
   pull-refused n = rw (← e, ne-eqb number 0 n)
 
   pub pull-done : number ≡ 0 → (count : ℕ) (q : Queue) (part into′ : List ℕ)
-      → takenOf (movedOf count q part) into′ ≡ takeIntoOf (queueAt h playbackStream) (partOf playbackStream space) into
-      → pullAnswer (fedOf 0 (count / 4) (withQueue h playbackStream q)) (withPart playbackStream space part) into′ ≡ pullOf h space into
+      → takenOf (movedOf count q part) into′ ≡ takeIntoOf (queueAt h playbackStream) (partOf capacity playbackStream space) into
+      → pullAnswer (fedOf 0 (count / 4) (withQueue h playbackStream q)) (withPart capacity playbackStream space part) into′ ≡ pullOf h space into
   unfolding pullOf
   pull-done z count q part into′ m = rw (← e, eq-eqb number 0 z, ← m)

@@ -7,12 +7,13 @@ use native.Mathlib.Omega.{arith}
 use borrow.Author.Tests.{leb-true, eqb-true, le-leb, eq-eqb}
 use lib.ListN.{length}
 use lib.Dec.{leb, eqb}
+use Rattle.word.specs.Parts.{partOf}
 use Rattle.host.specs.declared.Queue.{Queue}
 use Rattle.host.specs.declared.Host.{Host}
 use Rattle.host.specs.declared.Opening.{Opening}
 use Rattle.host.specs.declared.Set.{Set}
 use Rattle.host.specs.Queues.{capacity, queue, closed, validQueue, putOf, takeOf, takeIntoOf}
-use Rattle.host.specs.Hosts.{captureStream, playbackStream, host, queueAt, withQueue, validDownstream, validOf, failsOf, openOf, closeOf, freshOf, partOf}
+use Rattle.host.specs.Hosts.{captureStream, playbackStream, host, queueAt, withQueue, validDownstream, validOf, failsOf, openOf, closeOf, freshOf}
 use Rattle.host.specs.Calls.{checkOf, frameCheckOf, Feed, feedOf, Pull, pullOf, playbackFailsOf, captureFailsOf, downstreamOf}
 use Rattle.host.proofs.Tests.{left, right, by-cond}
 use Rattle.host.proofs.Every.{every-set}
@@ -91,7 +92,7 @@ module _ (h : Host) (v : validOf h ≡ true) where
       let number = frameCheckOf h (length space) (length frames) in
       by-cond (λ (a : Feed). validOf (a .fed .host) ≡ true) (eqb number 0) _ _
       (λ e. with-queue-valid h captureStream _ v
-      (put-valid (queueAt h captureStream) (partOf captureStream space) (length frames) (valid-queue h v captureStream)
+      (put-valid (queueAt h captureStream) (partOf capacity captureStream space) (length frames) (valid-queue h v captureStream)
       (frames-checked h (length space) (length frames) (eqb-true number 0 e) .whole) frames))
       (λ _. v)
 
@@ -101,7 +102,7 @@ module _ (h : Host) (v : validOf h ≡ true) where
       let number = frameCheckOf h (length space) (length into) in
       by-cond (λ (a : Pull). validOf (a .fed .host) ≡ true) (eqb number 0) _ _
       (λ e. with-queue-valid h playbackStream _ v
-      (take-valid (queueAt h playbackStream) (partOf playbackStream space) (length into) (valid-queue h v playbackStream)
+      (take-valid (queueAt h playbackStream) (partOf capacity playbackStream space) (length into) (valid-queue h v playbackStream)
       (frames-checked h (length space) (length into) (eqb-true number 0 e) .whole)))
       (λ _. v)
 

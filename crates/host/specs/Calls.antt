@@ -5,11 +5,13 @@ use mathlib.Core.Bool.{Bool, cond}
 use mathlib.Core.List.{List}
 use lib.ListN.{length}
 use lib.Dec.{ltb, eqb}
+use Rattle.stream.specs.Box.{streams}
+use Rattle.word.specs.Parts.{partOf, withPart}
 use Rattle.host.specs.declared.Host.{Host}
 use Rattle.host.specs.declared.Set.{Set}
 use Rattle.host.specs.declared.Fed.{Fed}
 use Rattle.host.specs.Queues.{capacity, Moved, Taken, putOf, takeIntoOf}
-use Rattle.host.specs.Hosts.{streams, captureStream, playbackStream, host, validOf, validDownstream, queueAt, withQueue, partOf, withPart}
+use Rattle.host.specs.Hosts.{captureStream, playbackStream, host, validOf, validDownstream, queueAt, withQueue}
 
 -- 10 for short queue space, 9 for a record that breaks a condition, else 0
 unfoldable pub checkOf : Host → ℕ → ℕ
@@ -32,14 +34,14 @@ abbrev pub feedAnswer : Fed → List ℕ → Feed
 feedAnswer fed space = record { fed = fed; space = space }
 
 abbrev pub fedWith : Host → ℕ → List ℕ → Moved → Feed
-fedWith h i space m = feedAnswer (fedOf 0 (m .count / 4) (withQueue h i (m .queue))) (withPart i space (m .part))
+fedWith h i space m = feedAnswer (fedOf 0 (m .count / 4) (withQueue h i (m .queue))) (withPart capacity i space (m .part))
 
 -- frames into the queue of the capture stream, as many as fit
 unfoldable pub feedOf : Host → List ℕ → List ℕ → Feed
 feedOf h space frames =
     let number = frameCheckOf h (length space) (length frames) in
     cond (eqb number 0)
-    (fedWith h captureStream space (putOf (queueAt h captureStream) (partOf captureStream space) frames (length frames)))
+    (fedWith h captureStream space (putOf (queueAt h captureStream) (partOf capacity captureStream space) frames (length frames)))
     (feedAnswer (fedOf number 0 h) space)
 
 -- what pull leaves: that, and the caller's buffer, whose rest stays
@@ -53,14 +55,14 @@ pullAnswer fed space into = record { fed = fed; space = space; into = into }
 
 abbrev pub pulledWith : Host → ℕ → List ℕ → Taken → Pull
 pulledWith h i space t =
-    pullAnswer (fedOf 0 (t .moved .count / 4) (withQueue h i (t .moved .queue))) (withPart i space (t .moved .part)) (t .into)
+    pullAnswer (fedOf 0 (t .moved .count / 4) (withQueue h i (t .moved .queue))) (withPart capacity i space (t .moved .part)) (t .into)
 
 -- frames out of the queue of the playback stream, as many as there are
 unfoldable pub pullOf : Host → List ℕ → List ℕ → Pull
 pullOf h space into =
     let number = frameCheckOf h (length space) (length into) in
     cond (eqb number 0)
-    (pulledWith h playbackStream space (takeIntoOf (queueAt h playbackStream) (partOf playbackStream space) into))
+    (pulledWith h playbackStream space (takeIntoOf (queueAt h playbackStream) (partOf capacity playbackStream space) into))
     (pullAnswer (fedOf number 0 h) space into)
 
 -- what a setting leaves: the number and the host end

@@ -1,20 +1,15 @@
 -- The host end record: the two opening switches, the downstream count, and the queues (document 01, "Host end, added").
-use Prim.Native.Nat.{ℕ, _+_, _*_, _/_, _%_}
+use Prim.Native.Nat.{ℕ, _*_, _/_, _%_}
 use mathlib.Core.Bool.{Bool, true, false, cond, _&&_}
-use mathlib.Core.List.{List, [], _∷_, _++_}
-use lib.ListN.{take, drop, getD, set, replicate}
-use lib.Dec.{leb, ltb, eqb}
+use mathlib.Core.List.{List, [], _∷_}
+use lib.ListN.{getD, set, replicate}
+use lib.Dec.{leb, eqb}
+use Rattle.word.specs.Parts.{partOf}
+use Rattle.stream.specs.Box.{streams, captures}
 use Rattle.host.specs.declared.Queue.{Queue}
 use Rattle.host.specs.declared.Host.{Host}
 use Rattle.host.specs.declared.Opening.{Opening}
 use Rattle.host.specs.Queues.{capacity, queue, closed, validQueue, contentsOf}
-
--- how many streams the box has; the first half captures, the second half plays (the Rust's stream 0 and stream 1)
-abbrev pub streams : ℕ
-streams = 2
-
-abbrev pub captures : ℕ → Bool
-captures i = ltb i (streams / 2)
 
 -- the stream that the host feeds, and the one that it pulls from
 abbrev pub captureStream : ℕ
@@ -70,17 +65,6 @@ openOf h i =
 unfoldable pub closeOf : Host → ℕ → Host
 closeOf h i = withQueue h i closed
 
--- Bytes not yet heard: those queued and those downstream; a capture stream, and a closed one, has none (the Rust's `update_position`).
-unfoldable pub latencyOf : Host → ℕ → ℕ
-latencyOf h i = cond (captures i) 0 (cond (queueAt h i .live) (queueAt h i .length + h .downstream) 0)
-
--- a stream's part of the lent queue space, the parts standing in the streams' order, and the space with another part in its place
-abbrev pub partOf : ℕ → List ℕ → List ℕ
-partOf i space = take capacity (drop (capacity * i) space)
-
-abbrev pub withPart : ℕ → List ℕ → List ℕ → List ℕ
-withPart i space part = take (capacity * i) space ++ (part ++ drop capacity (drop (capacity * i) space))
-
 -- the bytes queued for a stream
 abbrev pub queuedOf : Host → List ℕ → ℕ → List ℕ
-queuedOf h space i = contentsOf (queueAt h i) (partOf i space)
+queuedOf h space i = contentsOf (queueAt h i) (partOf capacity i space)

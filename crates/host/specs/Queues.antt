@@ -27,6 +27,10 @@ validQueue q = leb (q .length) capacity && (eqb (q .length % 4) 0 && (q .live ||
 abbrev pub contentsOf : Queue → List ℕ → List ℕ
 contentsOf q part = take (q .length) part
 
+-- Bytes not yet heard: those queued and those downstream; a capture stream, and a closed one, has none (the Rust's `update_position`).
+unfoldable pub latencyOf : Queue → Bool → ℕ → ℕ
+latencyOf q capture downstream = cond capture 0 (cond (q .live) (q .length + downstream) 0)
+
 -- what one call leaves of a queue: the bytes that it moved, the queue, and its part of the lent space
 pub record Moved : Type 0 where
   pub count : ℕ

@@ -1,15 +1,14 @@
 // The host end: opening switches, downstream count, and a queue for each stream in lent space, with the calls of the host's sound driver
 // (document 01, "Host end, added"). A queue's bytes stand from the start of its stream's part of that space.
+use stream::STREAMS;
 use stream::Stream;
 ghost use mathlib.Core.Path.{_≡_};
 ghost use Prim.Native.Nat.{_<_, _≤_};
 ghost use lib.ListN.{length};
-ghost use Rattle.host.specs.Queues.{capacity, validQueue, fittingOf, movedOf, putOf, takenOf, takeIntoOf};
-ghost use Rattle.host.specs.Hosts.{streams, captures, freshOf, validDownstream, validOf, failsOf, openOf, closeOf, latencyOf};
+ghost use Rattle.host.specs.Queues.{capacity, validQueue, latencyOf, fittingOf, movedOf, putOf, takenOf, takeIntoOf};
+ghost use Rattle.stream.specs.Box.{streams};
+ghost use Rattle.host.specs.Hosts.{freshOf, validDownstream, validOf, failsOf, openOf, closeOf};
 ghost use Rattle.host.specs.Calls.{checkOf, frameCheckOf, feedAnswer, feedOf, pullAnswer, pullOf, playbackFailsOf, captureFailsOf, downstreamOf, settingOf};
-
-// Streams of the box: the first half captures, the second half plays.
-pub const STREAMS: usize = 2;
 
 // The stream that the host feeds, and the one that it pulls from.
 pub const CAPTURE: usize = 0;
@@ -70,6 +69,20 @@ impl Queue {
             & ((self.length % 4 == 0) & (self.live | (self.length == 0)))
     }
 
+    // Bytes not yet heard: those queued and those downstream; a capture stream, and a closed one, has none.
+    pub fn latency(self, capture: bool, downstream: u32) -> u64
+        ensures { λ r. ⌜ r ≡ latencyOf self capture downstream ⌝ }
+    {
+        if capture {
+            return 0;
+        }
+        if self.live {
+            (self.length as u64) + (downstream as u64)
+        } else {
+            0
+        }
+    }
+
     // How many of n bytes fit behind those queued; a closed stream takes none.
     fn fitting(self, n: usize) -> u32
         requires { ⌜ self .length ≤ capacity ⌝ }
@@ -119,13 +132,6 @@ impl Queue {
             },
         }
     }
-}
-
-// Whether a stream captures.
-fn capturing(stream: usize) -> bool
-    ensures { λ r. ⌜ r ≡ captures stream ⌝ }
-{
-    stream < STREAMS / 2
 }
 
 // Number 12's condition on a downstream count.
@@ -195,7 +201,7 @@ impl Host {
     fn fails(self, stream: usize) -> bool
         ensures { λ r. ⌜ r ≡ failsOf self stream ⌝ }
     {
-        if capturing(stream) {
+        if stream::is_capture(stream) {
             self.capture
         } else {
             self.playback
@@ -240,22 +246,6 @@ impl Host {
             length: 0,
         };
         self
-    }
-
-    // Bytes not yet heard: those queued and those downstream; a capture stream, and a closed one, has none.
-    pub fn latency(self, stream: usize) -> u64
-        requires { ⌜ stream < streams ⌝ }
-        ensures { λ r. ⌜ r ≡ latencyOf self stream ⌝ }
-    {
-        if capturing(stream) {
-            return 0;
-        }
-        let q = self.queues[stream];
-        if q.live {
-            (q.length as u64) + (self.downstream as u64)
-        } else {
-            0
-        }
     }
 }
 

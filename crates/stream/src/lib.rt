@@ -5,10 +5,14 @@ use memory::Fetched;
 ghost use mathlib.Core.Path.{_≡_};
 ghost use Prim.Native.Nat.{_+_, _^_, _≤_, _<_};
 ghost use lib.ListN.{length};
+ghost use Rattle.stream.specs.Box.{captures};
 ghost use Rattle.stream.specs.Streams.{freshOf, validOf};
 ghost use Rattle.stream.specs.Plans.{readyOf, sizeOf, endOf, placedOf, entryOf, planOf};
 ghost use Rattle.stream.specs.Pieces.{followingOf, nextOf, listOf, EndOk, NextNeeds, memoryOf, pcmOf, stateOf, stepOut, pieceOf, piecesOf, PeriodNeeds};
 ghost use Rattle.stream.specs.Update.{leftOf, updateOf};
+
+// Streams of the box: the first half captures, the second half plays.
+pub const STREAMS: usize = 2;
 
 pub struct Stream {
     pub descriptor: u32,
@@ -131,6 +135,13 @@ impl Stream {
             completed: 0 < retired,
         }
     }
+}
+
+// Whether a stream captures.
+pub fn is_capture(index: usize) -> bool
+    ensures { λ r. ⌜ r ≡ captures index ⌝ }
+{
+    index < STREAMS / 2
 }
 
 // Whether a transfer takes the cyclic buffer.

@@ -1,6 +1,9 @@
--- The laws of specs/: what they need of lists, numbers and their bytes, bytes put at a place, words at a place, bytes moved down.
+-- The laws of specs/: what they need of lists, numbers and their bytes, bytes put at a place, words at a place, bytes moved down, parts of a space, loops
+-- over numbers.
 pub mod Lists
 pub mod Value
 pub mod Put
 pub mod Place
 pub mod Shifts
+pub mod Parts
+pub mod Each

@@ -1,10 +1,10 @@
 -- What the laws of words need of lists of bytes, and the library lacks. Assumes nothing.
-use Prim.Native.Nat.{ℕ, zero, suc, _+_}
+use Prim.Native.Nat.{ℕ, zero, suc, _+_, _<_}
 use mathlib.Core.Path.{_≡_, sym, ap, _∙_}
 use mathlib.Core.List.{List, [], _∷_, _++_}
 use native.Mathlib.Omega.{arith}
 use native.Mathlib.Nat.{zero-add, suc-add}
-use lib.ListN.{take, drop}
+use lib.ListN.{take, drop, set, replicate}
 use lib.Seq.{take-nil, getD-drop}
 use Rattle.word.specs.Value.{Bytes}
 
@@ -28,3 +28,17 @@ pub bytes-append : (k l : List ℕ) → Bytes k → Bytes l → Bytes (k ++ l)
 bytes-append [] l h g i = g i
 bytes-append (x ∷ k) l h g zero = h 0
 bytes-append (x ∷ k) l h g (suc i) = bytes-append k l (λ j. h (suc j)) g i
+
+-- a byte set, and zeros
+
+pub bytes-set : (l : List ℕ) (at v : ℕ) → v < 256 → Bytes l → Bytes (set l at v)
+bytes-set [] at v small h i = h i
+bytes-set (x ∷ l) zero v small h zero = small
+bytes-set (x ∷ l) zero v small h (suc i) = h (suc i)
+bytes-set (x ∷ l) (suc at) v small h zero = h 0
+bytes-set (x ∷ l) (suc at) v small h (suc i) = bytes-set l at v small (λ k. h (suc k)) i
+
+pub bytes-zeros : (n : ℕ) → Bytes (replicate n 0)
+bytes-zeros zero i = omega arith
+bytes-zeros (suc n) zero = omega arith
+bytes-zeros (suc n) (suc i) = bytes-zeros n i

@@ -3,7 +3,7 @@ use Prim.Native.Nat.{_*_}
 use borrow.Author.Needs.{needs}
 use borrow.Author.Tests.{lt-ltb, le-ltb}
 use Rattle.host.specs.Queues.{capacity}
-use Rattle.host.specs.Hosts.{streams}
+use Rattle.stream.specs.Box.{streams}
 use Rattle.host.specs.Calls.{checkOf}
 use Rattle.host.proofs.Host.check.Statement.{statement}
 use Rattle.host.proofs.Host.check.Tie as tie

@@ -1,0 +1,235 @@
+// The PCI side of the device: its configuration space, and its interrupt as line or message (the Rust's `PciDevice` and `update_irq`).
+use registers::Registers;
+ghost use mathlib.Core.Path.{_≡_};
+ghost use mathlib.Core.Bool.{cond};
+ghost use Prim.Native.Nat.{_+_, _^_, _<_};
+ghost use Rattle.stream.specs.Box.{streams};
+ghost use Rattle.registers.specs.Places.{withBits, keepBits};
+ghost use Rattle.pci.specs.Configuration.{freshOf, readOf, replaced, writeByteOf, writeOf};
+ghost use Rattle.pci.specs.Interrupts.{controllerOf, streamOf, sourcesOf, statusOf, pendingBy, messages, levelOf, messageOf, updateOut, updateOf};
+
+pub type Config = [u8; 256];
+
+// A message of the interrupt, or none.
+pub enum Msi {
+    None,
+    Message { address: u64, value: u32 },
+}
+
+// What an update of the interrupt answers: whether a message interrupt is asserted, and the message to send.
+pub struct Signal {
+    pub asserted: bool,
+    pub msi: Msi,
+}
+
+// The ICH9's vendor and device, at 0 and again as the subsystem.
+const IDENTITY: u32 = 0x293e_8086;
+
+// Bits of interrupt control and status: the global one, the controller's, and those of all sources, with the streams' from bit 0 on.
+const GLOBAL: u32 = 0x8000_0000;
+
+const CONTROLLER: u32 = 0x4000_0000;
+
+const SOURCES: u32 = CONTROLLER + (1 << stream::STREAMS) - 1;
+
+// The configuration of a new device.
+pub fn fresh() -> Config
+    ensures { λ r. ⌜ r ≡ freshOf ⌝ }
+{
+    let mut config = [0u8; 256];
+    word::put32_in(&mut config, 0x00, IDENTITY);
+    config[0x06] = 0x10;
+    word::put32_in(&mut config, 0x08, 0x0403_0003);
+    word::put32_in(&mut config, 0x2c, IDENTITY);
+    config[0x34] = 0x60;
+    config[0x3d] = 1;
+    config[0x60] = 5;
+    config[0x62] = 0x80;
+    config
+}
+
+// A register of 4 bytes; 0 past the last.
+pub fn read(config: &Config, register: u64) -> u32
+    ensures { λ r. ⌜ r ≡ readOf (now (config .entry)) register ⌝ }
+{
+    if 64 <= register {
+        return 0;
+    }
+    let value = word::get32(config, 4 * (register as usize));
+    if register == 4 {
+        return value & 0xffff_c000;
+    }
+    value
+}
+
+// Whether a write replaces the byte at `a`.
+fn replaces(a: usize) -> bool
+    ensures { λ r. ⌜ r ≡ replaced a ⌝ }
+{
+    ((0x10 <= a) & (a < 0x14)) | (a == 0x3c) | ((0x64 <= a) & (a < 0x6e))
+}
+
+// The byte at `a`, as far as it can be written.
+fn write_byte(config: &mut Config, a: usize, b: u8)
+    requires { ⌜ a < 256 ⌝ }
+    ensures { λ _. ⌜ now (config .exit) ≡ writeByteOf (now (config .entry)) a b ⌝ }
+{
+    if replaces(a) {
+        config[a] = b;
+        return;
+    }
+    if a == 0x04 {
+        config[a] = b & 6;
+        return;
+    }
+    if a == 0x05 {
+        config[a] = b & 4;
+        return;
+    }
+    if a == 0x62 {
+        config[a] = 0x80 | (b & 1);
+    }
+}
+
+// The bytes in order from address `start` on.
+pub fn write(config: &mut Config, start: u64, bytes: &[u8])
+    ensures { λ _. ⌜ now (config .exit) ≡ writeOf (now (config .entry)) start (now (bytes .entry)) ⌝ }
+{
+    let mut a = start as usize;
+    let mut i = 0;
+    while i < bytes.len() {
+        // No byte from here on can be written, and the next address might not fit.
+        if 256 <= a {
+            return;
+        }
+        write_byte(config, a, bytes[i]);
+        a += 1;
+        i += 1;
+    }
+}
+
+// Whether a ring or a codec has an enabled status.
+fn controller(regs: &Registers) -> bool
+    ensures { λ r. ⌜ r ≡ controllerOf (now (regs .entry)) ⌝ }
+{
+    let corb = regs[registers::CORBSTS] & regs[registers::CORBCTL];
+    let rirb = regs[registers::RIRBSTS] & regs[registers::RIRBCTL];
+    let state = word::get16(regs, registers::STATESTS);
+    let wake = word::get16(regs, registers::WAKEEN);
+    (corb & 1 != 0) | (rirb & 5 != 0) | (state & wake != 0)
+}
+
+// Whether a stream has an enabled status.
+fn stream_status(regs: &Registers, index: usize) -> bool
+    requires { ⌜ index < streams ⌝ }
+    ensures { λ r. ⌜ r ≡ streamOf (now (regs .entry)) index ⌝ }
+{
+    let base = registers::STREAM_BASE + registers::STREAM_SIZE * index;
+    regs[base + registers::STS] & regs[base] & 0x1c != 0
+}
+
+// The number with a bit added where `on`.
+fn with_bit(n: u32, bit: u32, on: bool) -> u32
+    requires { ⌜ n + bit < 2 ^ 32 ⌝ }
+    ensures { λ r. ⌜ r ≡ cond on (n + bit) n ⌝ }
+{
+    if on {
+        return n + bit;
+    }
+    n
+}
+
+// The sources' bits.
+fn sources(regs: &Registers) -> u32
+    ensures { λ r. ⌜ (r ≡ sourcesOf (now (regs .entry))) × (r < 2 ^ 31) ⌝ }
+{
+    let count = stream::STREAMS;
+    let mut found = with_bit(0, CONTROLLER, controller(regs));
+    let mut bit = 1;
+    let mut index = 0;
+    while index < count {
+        found = with_bit(found, bit, stream_status(regs, index));
+        bit *= 2;
+        index += 1;
+    }
+    found
+}
+
+// Global interrupt status.
+fn status(regs: &Registers) -> u32
+    ensures { λ r. ⌜ r ≡ statusOf (now (regs .entry)) ⌝ }
+{
+    let found = sources(regs);
+    if found == 0 {
+        return 0;
+    }
+    found + GLOBAL
+}
+
+// Whether an interrupt is pending, by global interrupt status and control.
+fn pending(status: u32, control: u32) -> bool
+    ensures { λ r. ⌜ r ≡ pendingBy status control ⌝ }
+{
+    (control & GLOBAL != 0) & (status & control & SOURCES != 0)
+}
+
+// Whether the interrupt goes as a message.
+fn uses_messages(config: &Config) -> bool
+    ensures { λ r. ⌜ r ≡ messages (now (config .entry)) ⌝ }
+{
+    config[0x62] & 1 != 0
+}
+
+// The INTx level.
+pub fn level(config: &Config, regs: &Registers) -> bool
+    ensures { λ r. ⌜ r ≡ levelOf (now (config .entry)) (now (regs .entry)) ⌝ }
+{
+    let control = word::get32(regs, registers::INTCTL);
+    let raised = pending(status(regs), control);
+    let message = uses_messages(config);
+    let disabled = config[0x05] & 4 != 0;
+    raised & (!message & !disabled)
+}
+
+// The interrupt status bit of the configuration.
+fn show(config: &mut Config, on: bool)
+    ensures { λ _. ⌜ now (config .exit) ≡ cond on (withBits 0x06 8 (now (config .entry))) (keepBits 0x06 0xf7 (now (config .entry))) ⌝ }
+{
+    if on {
+        config[0x06] |= 8;
+    } else {
+        config[0x06] &= 0xf7;
+    }
+}
+
+// The message that the configuration asks for, where it is to be sent.
+fn message(config: &Config, send: bool) -> Msi
+    ensures { λ r. ⌜ r ≡ cond send (messageOf (now (config .entry))) Msi.None ⌝ }
+{
+    if send {
+        let address = word::get64(config, 0x64);
+        let value = word::get16(config, 0x6c);
+        return Msi::Message {
+            address,
+            value: value as u32,
+        };
+    }
+    Msi::None
+}
+
+// The interrupt after a change of registers or configuration.
+pub fn update_irq(config: &mut Config, regs: &mut Registers, asserted: bool) -> Signal
+    ensures { λ r. ⌜ updateOut (now (config .exit)) (now (regs .exit)) r ≡ updateOf (now (config .entry)) (now (regs .entry)) asserted ⌝ }
+{
+    let control = word::get32(regs, registers::INTCTL);
+    let current = status(regs);
+    let raised = pending(current, control);
+    let messages = uses_messages(config);
+    let msi = message(config, raised & messages & !asserted);
+    show(config, raised & !messages);
+    word::put32_in(regs, registers::INTSTS, current);
+    Signal {
+        asserted: raised & messages,
+        msi,
+    }
+}
