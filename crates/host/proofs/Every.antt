@@ -6,9 +6,9 @@ use mathlib.Core.Bool.{Bool, true, false}
 use native.Mathlib.Numerals.{add-one}
 use lib.ListN.{length, drop, getD, set, drop-of-length-le}
 use lib.Seq.{drop-cons}
-use Rattle.host.specs.declared.Queue.{Queue}
+use Rattle.queue.specs.declared.Queue.{Queue}
 use Rattle.host.specs.Hosts.{every}
-use Rattle.host.proofs.Tests.{left, right}
+use Rattle.queue.proofs.Tests.{left, right}
 
 module _ (p : Queue → Bool) (d : Queue) where
   -- the queue at a place passes, where what stands for a missing one does

@@ -6,7 +6,7 @@ use mir.Val.{Val}
 use denote.Laws.{Is}
 use Rattle.host.specs.declared.Host.{Host}
 use Rattle.stream.specs.Box.{streams}
-use Rattle.host.proofs.Queue as queue
+use Rattle.queue.proofs.Queue as queue
 use Rattle.host.proofs.Host as host
 
 pub queues-held : (h : Host) (vs : List Val) → Is host.the-row h vs → length (h .queues) ≡ streams

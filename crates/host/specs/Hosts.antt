@@ -1,22 +1,16 @@
--- The host end record: the two opening switches, the downstream count, and the queues (document 01, "Host end, added").
-use Prim.Native.Nat.{ℕ, _*_, _/_, _%_}
+-- The host end record: the two opening switches, the downstream count, and the queues (document 01, "Host end, added"), with its check: the
+-- numbers 10 and 9, in that order (document 01, Numbers returned).
+use Prim.Native.Nat.{ℕ, _*_, _%_}
 use mathlib.Core.Bool.{Bool, true, false, cond, _&&_}
 use mathlib.Core.List.{List, [], _∷_}
 use lib.ListN.{getD, set, replicate}
-use lib.Dec.{leb, eqb}
+use lib.Dec.{ltb, leb, eqb}
 use Rattle.word.specs.Parts.{partOf}
 use Rattle.stream.specs.Box.{streams, captures}
-use Rattle.host.specs.declared.Queue.{Queue}
+use Rattle.queue.specs.declared.Queue.{Queue}
+use Rattle.queue.specs.Queues.{capacity, queue, closed, validQueue, contentsOf}
 use Rattle.host.specs.declared.Host.{Host}
 use Rattle.host.specs.declared.Opening.{Opening}
-use Rattle.host.specs.Queues.{capacity, queue, closed, validQueue, contentsOf}
-
--- the stream that the host feeds, and the one that it pulls from
-abbrev pub captureStream : ℕ
-captureStream = 0
-
-abbrev pub playbackStream : ℕ
-playbackStream = streams / 2
 
 -- bytes that the host holds beyond the queue, at most (document 01, Host end, added)
 abbrev pub maxDownstream : ℕ
@@ -46,6 +40,10 @@ validDownstream n = leb n maxDownstream && eqb (n % 4) 0
 -- what a host end record must meet, else number 9 (document 01, Numbers returned, below the table)
 unfoldable pub validOf : Host → Bool
 validOf h = validDownstream (h .downstream) && every validQueue (h .queues)
+
+-- 10 for short queue space, 9 for a record that breaks a condition, else 0
+unfoldable pub checkOf : Host → ℕ → ℕ
+checkOf h space = cond (ltb space (capacity * streams)) 10 (cond (validOf h) 0 9)
 
 -- the switch that makes a stream's opening fail (document 01, Host end, added)
 abbrev pub failsOf : Host → ℕ → Bool

@@ -14,10 +14,10 @@ use Rattle.stream.specs.declared.Cyclic.{Cyclic}
 use Rattle.stream.specs.Plans.{readyOf}
 use Rattle.stream.specs.Pieces.{stateOf, piecesOf}
 use Rattle.stream.proofs.Facts.{pieces-list-length, pieces-memory-length, pieces-pcm-length}
-use Rattle.host.specs.declared.Queue.{Queue}
-use Rattle.host.specs.Queues.{takeOf, putOf}
-use Rattle.host.proofs.Tests.{by-cond}
-use Rattle.host.proofs.Contents.{length-take-part, length-put-part}
+use Rattle.queue.specs.declared.Queue.{Queue}
+use Rattle.queue.specs.Queues.{takeOf, putOf}
+use Rattle.queue.proofs.Tests.{by-cond}
+use Rattle.queue.proofs.Contents.{length-take-part, length-put-part}
 use Rattle.transfer.specs.Transfers.{Transfer, transferOut, withPieces, silence, takenOf, capturedOf, captureOf, heardOf, playbackOf, transferOf, TransferNeeds}
 use Rattle.transfer.proofs.Laws.{length-silence}
 

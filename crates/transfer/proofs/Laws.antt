@@ -13,8 +13,8 @@ use Rattle.stream.specs.declared.Stream.{Stream}
 use Rattle.stream.specs.declared.Cyclic.{Cyclic}
 use Rattle.stream.specs.Plans.{readyOf}
 use Rattle.stream.specs.Pieces.{Out, stateOf, piecesOf}
-use Rattle.host.specs.declared.Queue.{Queue}
-use Rattle.host.specs.Queues.{Moved, Taken, putOf, takeOf, takeIntoOf}
+use Rattle.queue.specs.declared.Queue.{Queue}
+use Rattle.queue.specs.Queues.{Moved, Taken, putOf, takeOf, takeIntoOf}
 use Rattle.transfer.specs.Transfers.{Transfer, transferOut, withPieces, silence, takenOf, capturedOf, captureOf, heardOf, queuedOf, playbackOf, transferOf}
 
 pub take-silence : (n k : ℕ) → n ≤ k → take n (silence k) ≡ silence n

@@ -10,8 +10,8 @@ use Rattle.stream.specs.declared.Stream.{Stream}
 use Rattle.stream.specs.declared.Cyclic.{Cyclic}
 use Rattle.stream.specs.Plans.{readyOf}
 use Rattle.stream.specs.Pieces.{Out, stateOf, piecesOf}
-use Rattle.host.specs.declared.Queue.{Queue}
-use Rattle.host.specs.Queues.{capacity, Moved, movedOf, putOf, takeOf}
+use Rattle.queue.specs.declared.Queue.{Queue}
+use Rattle.queue.specs.Queues.{capacity, Moved, movedOf, putOf, takeOf}
 use Rattle.transfer.specs.declared.Transferred.{Transferred}
 
 -- all that a transfer leaves: the answer, the list, the queue's part of the lent space, and guest memory

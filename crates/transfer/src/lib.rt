@@ -1,12 +1,12 @@
 // One transfer of at most a period between guest memory and a stream's host queue (document 01, "Stream transfer"; the Rust's `transfer`).
 use gain::Gain;
-use host::Queue;
+use queue::Queue;
 use stream::Cyclic;
 use stream::Stream;
 ghost use mathlib.Core.Path.{_≡_};
 ghost use Prim.Native.Nat.{_<_, _≤_};
 ghost use lib.ListN.{length};
-ghost use Rattle.host.specs.Queues.{capacity};
+ghost use Rattle.queue.specs.Queues.{capacity};
 ghost use Rattle.transfer.specs.Transfers.{leftOf, silence, takenOf, capturedOf, captureOf, heardOf, playbackOf, transferOf, TransferNeeds};
 
 // What a transfer left beside the lent lists: whether it succeeded, whether the limit of pending completions stopped it, the stream and its queue.

@@ -1,7 +1,7 @@
 -- `captured` meets its contract: an unconnected stream takes nothing, another takes and amplifies. Assumes nothing.
 use borrow.Author.Needs.{needs}
 use borrow.Author.Tests.{not-true, not-false}
-use Rattle.host.specs.Queues.{movedOf, takenOf}
+use Rattle.queue.specs.Queues.{movedOf, takenOf}
 use Rattle.transfer.proofs.Laws.{captured-none, captured-taken}
 use Rattle.transfer.proofs.captured.Statement.{statement}
 use Rattle.transfer.proofs.captured.Tie as tie

@@ -4,7 +4,7 @@ use native.Mathlib.Omega.{arith}
 use borrow.Author.Needs.{needs}
 use borrow.Author.Tests.{not-true, not-false}
 use Rattle.stream.specs.Pieces.{stepOut}
-use Rattle.host.specs.Queues.{movedOf}
+use Rattle.queue.specs.Queues.{movedOf}
 use Rattle.transfer.proofs.Laws.{silent-length, playback-failed, playback-queued}
 use Rattle.transfer.proofs.playback.Statement.{statement}
 use Rattle.transfer.proofs.playback.Tie as tie

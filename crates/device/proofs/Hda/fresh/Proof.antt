@@ -1,0 +1,36 @@
+-- `Hda::fresh` meets its contract: each part as its call leaves it. Assumes nothing.
+use borrow.Author.Needs.{needs}
+use Rattle.device.specs.Devices.{freshOf}
+use Rattle.device.proofs.Hda.fresh.Statement.{statement}
+use Rattle.device.proofs.Hda.fresh.Tie as tie
+
+fresh-requires : tie.Need-fresh-requires
+fresh-requires c κs = search needs
+
+fresh-requires-2 : tie.Need-fresh-requires-2
+fresh-requires-2 c κs = search needs
+
+fresh-requires-3 : tie.Need-fresh-requires-3
+fresh-requires-3 c κs = search needs
+
+reset-requires : tie.Need-reset-requires
+reset-requires c κs = search needs
+
+fresh-requires-4 : tie.Need-fresh-requires-4
+fresh-requires-4 c κs = search needs
+
+returns : tie.Need-returns
+unfolding freshOf
+returns c =
+    rw (c .before .before .before .before .fresh .ensures, c .before .before .before .fresh2 .ensures, c .before .before .fresh3 .ensures, c .before .reset .ensures, c .fresh4 .ensures)
+
+pub fresh-spec : {M : Type 1} → statement M
+fresh-spec =
+    tie.close
+    (tie.spec
+    fresh-requires
+    fresh-requires-2
+    fresh-requires-3
+    reset-requires
+    fresh-requires-4
+    returns)
