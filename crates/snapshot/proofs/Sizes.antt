@@ -1,8 +1,8 @@
 -- How long a state is: its parts, the whole, and what that comes to for two streams. Assumes nothing.
 use Prim.Native.Nat.{ℕ, zero, suc, _+_, _*_, _≤_, _<_}
-use mathlib.Core.Path.{_≡_, refl, _∙_}
+use mathlib.Core.Path.{_≡_, refl, ap, _∙_}
 use mathlib.Core.Bool.{Bool}
-use mathlib.Core.List.{List}
+use mathlib.Core.List.{List, _++_}
 use native.Mathlib.Omega.{arith}
 use lib.ListN.{length, drop, length-append, length-drop}
 use lib.Seq.{length-take-le}
@@ -23,6 +23,12 @@ length-head d z = simp length-append (omega (arith, z .config, z .regs, length-r
 pub length-stream : (s : Stream) (list : List ℕ) → 8 * s .pending ≤ length list → length (streamOf s list) ≡ 34 + 8 * s .pending
 unfolding streamOf
 length-stream s list h = omega (arith, length-take-le (8 * s .pending) list h)
+
+-- stream `i`, then those after it
+pub streams-cons : (n i : ℕ) (d : Hda) (lists : List ℕ)
+    → streamsOf (suc n) i d lists ≡ streamOf (streamAt d i) (partOf listSize i lists) ++ streamsOf n (i + 1) d lists
+unfolding streamsOf
+streams-cons n i d lists = refl
 
 -- a device whose lists are within their places
 module _ (d : Hda) (few : Few d) where
@@ -47,7 +53,8 @@ module _ (d : Hda) (lists : List ℕ) (k : Kept d lists) where
   unfolding streamsOf sizesOf
   length-streams zero i h = refl
   length-streams (suc n) i h =
-      omega (
+      ap length (streams-cons n i d lists)
+      ∙ omega (
         arith,
         length-append (streamOf (streamAt d i) (partOf listSize i lists)) (streamsOf n (i + 1) d lists),
         length-stream (streamAt d i) (partOf listSize i lists) (part-room i (omega arith)),

@@ -11,7 +11,7 @@ use Rattle.device.specs.declared.Hda.{Hda}
 use Rattle.device.specs.Devices.{listSize, streamAt}
 use Rattle.snapshot.specs.States.{streamOf, streamsOf, sizesOf, Kept}
 use Rattle.snapshot.proofs.Puts.{put-then, put-none}
-use Rattle.snapshot.proofs.Sizes.{length-stream, part-room}
+use Rattle.snapshot.proofs.Sizes.{length-stream, streams-cons, part-room}
 
 -- of `n` streams, stream `i` and those after it
 module _ (d : Hda) (n i : ℕ) where
@@ -25,8 +25,7 @@ module _ (d : Hda) (n i : ℕ) where
 
   module _ (lists : List ℕ) where
     streams-next : i < n → streamsOf (n - i) i d lists ≡ streamOf (streamAt d i) (partOf listSize i lists) ++ streamsOf (n - (i + 1)) (i + 1) d lists
-    unfolding streamsOf
-    streams-next h = let more : n - i ≡ suc (n - (i + 1)) = omega arith in rw more
+    streams-next h = let more : n - i ≡ suc (n - (i + 1)) = omega arith in rw more (streams-cons (n - (i + 1)) i d lists)
 
     pub streams-end : (at : ℕ) (l : List ℕ) → n ≤ i → putAt at (streamsOf (n - i) i d lists) l ≡ l
     unfolding streamsOf
