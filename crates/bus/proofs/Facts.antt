@@ -11,7 +11,7 @@ use Rattle.word.proofs.Place.{length-store}
 use Rattle.codec.specs.declared.Codec.{Codec}
 use Rattle.registers.specs.Places.{size, rirbwp, icis, has}
 use Rattle.registers.proofs.Facts.{length-write}
-use Rattle.rings.specs.Rings.{immediateOf}
+use Rattle.immediate.specs.Immediate.{immediateOf}
 use Rattle.bus.specs.Bus.{Front, byteOf, bytesOf}
 
 chosen : (P : Front → Type 0) (t : Bool) {x y : Front} → P x → P y → P (cond t x y)

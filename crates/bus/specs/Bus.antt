@@ -7,7 +7,8 @@ use Rattle.word.specs.Place.{storeAt}
 use Rattle.registers.specs.Places.{size, rirbwp, icis, has}
 use Rattle.registers.specs.Writes.{writeByteOf}
 use Rattle.rings.specs.declared.Link.{Link}
-use Rattle.rings.specs.Rings.{Immediate, linkOf, immediateOf}
+use Rattle.immediate.specs.Immediate.{Immediate, immediateOf}
+use Rattle.rings.specs.Rings.{linkOf}
 
 -- what a write's bytes change: the registers, and the codec with its unreported responses
 pub record Front : Type 0 where

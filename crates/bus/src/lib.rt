@@ -22,7 +22,7 @@ fn write_byte(regs: &mut Registers, link: Link, a: usize, byte: u8) -> Link
     }
     if a == registers::ICIS {
         let codec = link.codec;
-        let next = rings::immediate(regs, codec, byte);
+        let next = immediate::immediate(regs, codec, byte);
         return Link {
             codec: next,
             responses: link.responses,

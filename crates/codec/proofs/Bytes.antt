@@ -11,7 +11,7 @@ use Rattle.word.specs.Value.{Bytes}
 use Rattle.word.specs.Place.{putAt}
 use Rattle.word.proofs.Lists.{bytes-take, bytes-drop, bytes-append}
 use Rattle.word.proofs.Put.{put-same, length-put, bytes-put, put-there, put-join}
-use Rattle.codec.specs.declared.Node.{Node}
+use Rattle.node.specs.declared.Node.{Node}
 use Rattle.codec.specs.declared.Codec.{Codec}
 use Rattle.codec.specs.Codecs.{absent, nodeAt}
 use Rattle.codec.specs.WellFormed.{WellFormedNode, WellFormed}

@@ -1,11 +1,10 @@
--- Laws of tests, choices and exceptions: by them the theorems of agreement go through the definitions case by case.
+-- Laws of tests and choices: by them theorems go through the definitions case by case.
 use Prim.Native.Nat.{ℕ, zero, suc, _+_, _≤_, _<_, _%_}
 use mathlib.Core.Path.{_≡_, refl, sym, ap, _∙_, subst}
 use mathlib.Core.Bool.{Bool, true, false, cond, _&&_, false≢true}
 use native.Mathlib.Omega.{arith}
 use borrow.Author.Tests.{eqb-true, eqb-false, leb-true, ltb-true}
 use lib.Dec.{eqb, leb, ltb, leb·suc-suc, leb·suc-zero, eqb·suc-zero}
-use Rattle.codec.specs.Exceptions.{Exception, None, VerbAbsent, isNone, unless}
 
 -- ---- cases
 -- a test holds or fails
@@ -59,17 +58,3 @@ outside false b h x y = refl
 pub choice-same : {A : Type 0} (t : Bool) (x : A) → cond t x x ≡ x
 choice-same true x = refl
 choice-same false x = refl
-
--- ---- exceptions
--- an exception is not none
-pub never : {A : Type 0} (e : Exception) → isNone e ≡ false → e ≡ None → A
-never e r h = absurd (false≢true (sym r ∙ ap isNone h))
-
--- so where `e` would be one and there is none, the test has held
-pub passed : (t : Bool) (a e : Exception) → isNone e ≡ false → cond t a e ≡ None → t ≡ true
-passed true a e r h = refl
-passed false a e r h = never e r h
-
--- .. a node has the verb, and of a choice by that test the first
-pub has : (t : Bool) {A : Type 0} (x y : A) → unless t VerbAbsent ≡ None → cond t x y ≡ x
-has t x y h = rw (passed t None VerbAbsent refl h)

@@ -12,11 +12,11 @@ use denote.Shadow.{shadow}
 use denote.Array.{each}
 use denote.Plain.{UInt}
 use Rattle.word.specs.Value.{Bytes}
-use Rattle.codec.specs.declared.Node.{Node}
+use Rattle.node.specs.declared.Node.{Node}
 use Rattle.codec.specs.declared.Codec.{Codec}
 use Rattle.codec.specs.Codecs.{absent}
 use Rattle.codec.specs.WellFormed.{WellFormedNode, WellFormed}
-use Rattle.codec.proofs.Node as node
+use Rattle.node.proofs.Node as node
 use Rattle.codec.proofs.Codec as codec
 
 -- an array's elements, each at its machine value

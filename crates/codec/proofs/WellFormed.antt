@@ -8,13 +8,13 @@ use native.Mathlib.Nat.{not-suc-le-zero}
 use lib.Dec.{eqb, leb, ltb}
 use lib.ListN.{length, getD, set, replicate, length-set}
 use Rattle.word.specs.Value.{Bytes}
-use Rattle.codec.specs.declared.Node.{Node}
-use Rattle.codec.specs.declared.Answer.{Answer}
+use Rattle.node.specs.declared.Node.{Node}
+use Rattle.node.specs.declared.Answer.{Answer}
 use Rattle.codec.specs.declared.Codec.{Codec}
 use Rattle.codec.specs.declared.Outcome.{Outcome}
-use Rattle.codec.specs.Command.{bit, addressOf, indirect, nodeOf, shortVerbOf, widePayloadOf, longVerbOf, payloadOf}
-use Rattle.codec.specs.Nodes.{put, putIf, putSides, setAmplifierOf, setOf, nodeVerbOf}
-use Rattle.codec.specs.Codecs.{absent, nodeAt, freshNodeOf, freshOf, verbOf}
+use Rattle.node.specs.Command.{bit, addressOf, indirect, nodeOf, shortVerbOf, widePayloadOf, longVerbOf, payloadOf}
+use Rattle.node.specs.Nodes.{put, putIf, putSides, setAmplifierOf, setOf, nodeVerbOf, freshNodeOf}
+use Rattle.codec.specs.Codecs.{absent, nodeAt, freshOf, verbOf}
 use Rattle.codec.specs.WellFormed.{WellFormedNode, WellFormed}
 
 -- what holds of both choices holds of the one taken

@@ -4,26 +4,20 @@ use mathlib.Core.Bool.{Bool, true, false, cond, not, _&&_, _||_}
 use mathlib.Core.List.{List, [], _∷_}
 use lib.ListN.{getD, set, replicate}
 use lib.Dec.{eqb, leb}
-use Rattle.gain.specs.Gain.{gainOf, amplifiedOf}
-use Rattle.codec.specs.declared.Node.{Node}
-use Rattle.codec.specs.declared.Answer.{Answer}
+use Rattle.node.specs.declared.Node.{Node}
+use Rattle.node.specs.declared.Answer.{Answer}
 use Rattle.codec.specs.declared.Codec.{Codec}
 use Rattle.codec.specs.declared.Outcome.{Outcome}
 use Rattle.codec.specs.declared.Reply.{Reply}
 use Rattle.codec.specs.declared.Reply.the-variants.{Nothing, Value}
-use Rattle.codec.specs.Command.{addressOf, indirect, nodeOf, longVerbOf, payloadOf, bit}
-use Rattle.codec.specs.Parameters.{parameterOf}
-use Rattle.codec.specs.Nodes.{byte, formatOf, nodeVerbOf}
+use Rattle.node.specs.Command.{addressOf, indirect, nodeOf, longVerbOf, payloadOf, bit}
+use Rattle.node.specs.Parameters.{parameterOf}
+use Rattle.node.specs.Nodes.{byte, formatOf, nodeVerbOf, freshNodeOf}
 
 -- the words that a reply puts on the link: none, or one
 abbrev pub wordsOf : Reply → List ℕ
 wordsOf Nothing = []
 wordsOf (Value v) = v ∷ []
-
--- A node's record at reset: both amplifiers muted at 0 dB, EAPD on, 48,000 16-bit stereo, and the pin's control and configuration default (lowest byte first).
-unfoldable pub freshNodeOf : ℕ → ℕ → ℕ → ℕ → Node
-freshNodeOf pin a b c =
-    record { bytes = 0xca ∷ 0xca ∷ 0xca ∷ 0xca ∷ 0 ∷ 0 ∷ 0 ∷ pin ∷ 0 ∷ 2 ∷ 0x11 ∷ 0 ∷ a ∷ b ∷ c ∷ 0 ∷ 0 ∷ 0 ∷ 0 ∷ 0 ∷ 0 ∷ 0 ∷ 0 ∷ 0 ∷ [] }
 
 -- The Rust's `Codec::default`: root, function group, output converter and pin, input converter and pin.
 unfoldable pub freshOf : Codec
@@ -84,7 +78,3 @@ connectedOf c false tag format = liveOf (nodeAt c 2) (nodeAt c 1) (nodeAt c 3) 0
 abbrev pub amplifierByteOf : Codec → Bool → ℕ → ℕ
 amplifierByteOf c true side = byte (nodeAt c 4) side
 amplifierByteOf c false side = byte (nodeAt c 2) (2 + side)
-
--- The Rust's `Codec::amplify` on stereo frames.
-unfoldable pub amplifyOf : Codec → Bool → List ℕ → List ℕ
-amplifyOf c input pcm = amplifiedOf (gainOf (amplifierByteOf c input 0)) (gainOf (amplifierByteOf c input 1)) pcm

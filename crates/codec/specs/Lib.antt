@@ -1,9 +1,3 @@
-pub mod Command
-pub mod Parameters
-pub mod Nodes
 pub mod Codecs
 pub mod WellFormed
 pub mod Bytes
-pub mod HdaParameters
-pub mod HdaVerbs
-pub mod Exceptions

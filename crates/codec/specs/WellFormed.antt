@@ -3,7 +3,7 @@ use Prim.Native.Nat.{ℕ, _<_}
 use mathlib.Core.Path.{_≡_}
 use lib.ListN.{length}
 use Rattle.word.specs.Value.{Bytes}
-use Rattle.codec.specs.declared.Node.{Node}
+use Rattle.node.specs.declared.Node.{Node}
 use Rattle.codec.specs.declared.Codec.{Codec}
 use Rattle.codec.specs.Codecs.{nodeAt}
 

@@ -5,8 +5,8 @@ use mathlib.Core.Bool.{Bool, cond, _&&_, _||_}
 use mathlib.Core.List.{List}
 use lib.ListN.{length, replicate}
 use lib.Dec.{eqb, ltb}
+use Rattle.node.specs.Nodes.{byte}
 use Rattle.codec.specs.Codecs.{nodeAt}
-use Rattle.codec.specs.Nodes.{byte}
 use Rattle.registers.specs.Places.{gctl, byteAt, has, dmaOf}
 use Rattle.registers.specs.Reads as registers
 use Rattle.rings.specs.Rings.{ringsOf, responseOf}

@@ -21,8 +21,7 @@ use Rattle.codec.specs.Bytes.{codecAt, storeCodecAt}
 use Rattle.clock.specs.declared.Clock.{Clock}
 use Rattle.clock.specs.Clock.{advanceOf}
 use Rattle.clock.specs.Frames.{accrueOf}
-use Rattle.replay.specs.Answers.{answered, sized, pcmOf, countOf, valueOf, flagOf, repeated}
-use Rattle.replay.specs.Answers.{formatAnswer, gainAnswer, verbAnswer, connectedAnswer, clockAnswer, timeAnswer}
+use Rattle.replay.specs.Answers.{answered, sized, pcmOf, countOf, valueOf, flagOf, repeated, formatAnswer, gainAnswer, verbAnswer, connectedAnswer, clockAnswer, timeAnswer}
 use Rattle.replay.proofs.Stores.{stored, take-more}
 
 pub other-size : (n : ℕ) (b own : List ℕ) → (length b ≡ n → ⊥) → answered false b ≡ sized n b own

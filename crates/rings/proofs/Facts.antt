@@ -29,7 +29,8 @@ use Rattle.codec.proofs.WellFormed.{verb-well-formed}
 use Rattle.codec.proofs.Choices.{by-test, by-value}
 use Rattle.registers.specs.Places.{corbrp, corbwp, corbctl, corbsts, corbsize, rirbbase, rirbwp, rintcnt, rirbctl, rirbsts, icoi, icii, icis, byteAt, has, withBits, keepBits}
 use Rattle.rings.proofs.Laws.{commands-stopped, commands-done}
-use Rattle.rings.specs.Rings.{Rings, ringsOf, linkOf, withRegs, entriesOf, entryAt, nextResponse, thresholdOf, countedOf, reportedOf, responseOf, answeredOf, executedOf, fetchedOf, currentOf, haltedOf, fetchOf, onward, again, fetchesOf, runningOf, commandsOf, Immediate, immediateAllowed, repliedOf, immediateOf}
+use Rattle.immediate.specs.Immediate.{Immediate, immediateAllowed, repliedOf, immediateOf}
+use Rattle.rings.specs.Rings.{Rings, ringsOf, linkOf, withRegs, entriesOf, entryAt, nextResponse, thresholdOf, countedOf, reportedOf, responseOf, answeredOf, executedOf, fetchedOf, currentOf, haltedOf, fetchOf, onward, again, fetchesOf, runningOf, commandsOf}
 
 -- what holds of both choices holds of the one taken
 chosen : {A : Type 0} (P : A → Type 0) (t : Bool) {a b : A} → P a → P b → P (cond t a b)

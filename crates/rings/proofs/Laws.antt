@@ -5,7 +5,6 @@ use mathlib.Core.Bool.{Bool, true, false, false≢true}
 use mathlib.Core.List.{List, _++_}
 use native.Mathlib.Omega.{arith}
 use lib.Dec.{eqb}
-use lib.Bits.{bitAnd}
 use lib.ListN.{length, take, replicate}
 use lib.Seq.{take-length}
 use Rattle.word.specs.Value.{valueOf, bytesOf}
@@ -17,10 +16,10 @@ use Rattle.codec.specs.declared.Outcome.{Outcome}
 use Rattle.codec.specs.declared.Reply.{Reply}
 use Rattle.codec.specs.declared.Reply.the-variants.{Nothing, Value}
 use Rattle.codec.specs.Codecs.{verbOf}
-use Rattle.registers.specs.Places.{corbbase, corbrp, corbwp, corbsize, rirbbase, rirbwp, rirbctl, rirbsts, icoi, icis, byteAt, has, withBits, keepBits}
+use Rattle.registers.specs.Places.{corbbase, corbrp, corbwp, corbsize, rirbbase, rirbwp, rirbctl, rirbsts, byteAt, has, withBits, keepBits}
 use Rattle.rings.specs.declared.Link.{Link}
 use Rattle.rings.specs.declared.Command.{Command}
-use Rattle.rings.specs.Rings.{Rings, ringsOf, linkOf, entriesOf, entryAt, countedOf, nextResponse, responseOf, answeredOf, currentOf, nextCommand, fetchOf, executedOf, fetchedOf, commandAs, haltedOf, fetchesOf, idleOf, runningOf, commandsOf, immediately, immediateAllowed, repliedOf, immediateOf}
+use Rattle.rings.specs.Rings.{Rings, ringsOf, linkOf, entriesOf, entryAt, countedOf, nextResponse, responseOf, answeredOf, currentOf, nextCommand, fetchOf, executedOf, fetchedOf, commandAs, haltedOf, fetchesOf, idleOf, runningOf, commandsOf}
 
 -- ---- a response
 -- its eight bytes, word by word
@@ -119,22 +118,3 @@ module _ (dma : Bool) (x : Rings) where
     -- none waits
     pub commands-caught-up : eqb (currentOf (x .regs) corbrp) (currentOf (x .regs) corbwp) ≡ true → idleOf x ≡ commandsOf dma x
     commands-caught-up e = ap idleOf (sym (fetches-rest x (entriesOf (byteAt (x .regs) corbsize)) e)) ∙ commands-done
-
--- ---- the immediate command
-module _ (regs : List ℕ) (codec : Codec) (byte : ℕ) where
-  abbrev cleared : List ℕ
-  cleared = keepBits icis (255 - bitAnd byte 2) regs
-
-  pub immediate-none : has 1 byte ≡ false → immediately (keepBits icis 0xfe cleared) codec ≡ immediateOf regs codec byte
-  unfolding immediateOf
-  immediate-none e = rw e
-
-  module _ (asked : has 1 byte ≡ true) where
-    pub immediate-refused : immediateAllowed cleared ≡ false → immediately cleared codec ≡ immediateOf regs codec byte
-    unfolding immediateOf
-    immediate-refused e = rw (asked, e)
-
-    pub immediate-done : immediateAllowed cleared ≡ true → (o : Outcome) → o ≡ verbOf codec (wordAt 4 icoi cleared)
-        → repliedOf cleared (o .codec) (o .reply) ≡ immediateOf regs codec byte
-    unfolding immediateOf
-    immediate-done e o eo = rw (asked, e, eo)

@@ -1,11 +1,9 @@
--- The command ring (CORB), the response ring (RIRB) and the immediate command: document 01, "Command rings"; the Rust's `commands`, `response` and its
--- `write` at 0x68.
-use Prim.Native.Nat.{ℕ, zero, suc, _+_, _-_, _*_, _/_, _%_, _≤_}
-use mathlib.Core.Bool.{Bool, true, false, cond, not, _&&_, _||_}
+-- The command ring (CORB) and the response ring (RIRB): document 01, "Command rings"; the Rust's `commands` and `response`.
+use Prim.Native.Nat.{ℕ, zero, suc, _+_, _*_, _/_, _%_, _≤_}
+use mathlib.Core.Bool.{Bool, true, false, cond, not, _&&_}
 use mathlib.Core.List.{List, _++_}
-use lib.ListN.{set, replicate}
+use lib.ListN.{replicate}
 use lib.Dec.{eqb, leb}
-use lib.Bits.{bitAnd}
 use Rattle.word.specs.Value.{valueOf, bytesOf}
 use Rattle.word.specs.Place.{wordAt, storeAt}
 use Rattle.memory.specs.Memory.{Access, readOf, writeOf}
@@ -13,7 +11,7 @@ use Rattle.codec.specs.declared.Codec.{Codec}
 use Rattle.codec.specs.declared.Reply.{Reply}
 use Rattle.codec.specs.declared.Reply.the-variants.{Nothing, Value}
 use Rattle.codec.specs.Codecs.{verbOf}
-use Rattle.registers.specs.Places.{gctl, corbbase, corbwp, corbrp, corbctl, corbsts, corbsize, rirbbase, rirbwp, rintcnt, rirbctl, rirbsts, rirbsize, icoi, icii, icis, byteAt, has, withBits, keepBits}
+use Rattle.registers.specs.Places.{corbbase, corbwp, corbrp, corbctl, corbsts, corbsize, rirbbase, rirbwp, rintcnt, rirbctl, rirbsts, rirbsize, byteAt, has, withBits, keepBits}
 use Rattle.rings.specs.declared.Link.{Link}
 use Rattle.rings.specs.declared.Command.{Command}
 
@@ -127,30 +125,3 @@ runningOf dma regs = dma && has 2 (byteAt regs corbctl) && not (has 0x80 (byteAt
 -- every command that waits, at most a ring of them
 unfoldable pub commandsOf : Bool → Rings → Rings
 commandsOf dma x = cond (runningOf dma (x .regs)) (idleOf (fetchesOf (entriesOf (byteAt (x .regs) corbsize)) x)) x
-
--- what an immediate command leaves
-pub record Immediate : Type 0 where
-  pub regs : List ℕ
-  pub codec : Codec
-
-abbrev pub immediately : List ℕ → Codec → Immediate
-immediately regs codec = record { regs = regs; codec = codec }
-
--- it runs where the controller is out of reset and the command ring is stopped or has caught up
-abbrev pub immediateAllowed : List ℕ → Bool
-immediateAllowed regs = has 1 (byteAt regs gctl) && (not (has 2 (byteAt regs corbctl)) || eqb (wordAt 2 corbwp regs) (wordAt 2 corbrp regs))
-
--- a reply is valid in ICIS; with none the command stays busy
-abbrev pub repliedOf : List ℕ → Codec → Reply → Immediate
-repliedOf regs codec Nothing = immediately (withBits icis 1 regs) codec
-repliedOf regs codec (Value v) = immediately (set (storeAt 4 icii v regs) icis 2) codec
-
--- bit 0 of the byte asks for the command; a 0 there clears busy
-abbrev pub askedOf : List ℕ → Codec → ℕ → Immediate
-askedOf regs codec b =
-    let o = verbOf codec (wordAt 4 icoi regs) in
-    cond (has 1 b) (cond (immediateAllowed regs) (repliedOf regs (o .codec) (o .reply)) (immediately regs codec)) (immediately (keepBits icis 0xfe regs) codec)
-
--- a byte written to ICIS (HDA 1.0a 3.4.3): a 1 in bit 1 clears it first
-unfoldable pub immediateOf : List ℕ → Codec → ℕ → Immediate
-immediateOf regs codec b = askedOf (keepBits icis (255 - bitAnd b 2) regs) codec b

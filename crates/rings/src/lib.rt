@@ -1,5 +1,5 @@
-// The command and response rings and the immediate command (document 01, "Command rings"; the Rust's `commands` and `response`). The contracts cite the device's
-// own definitions; specs/Hda.antt says what HDA 1.0a has, and proofs/Agreement.antt where the two agree.
+// The command and response rings (document 01, "Command rings"; the Rust's `commands` and `response`). The contracts cite the device's own definitions; crate
+// rings_hda says what HDA 1.0a has, and where the two agree.
 use codec::Codec;
 use codec::Reply;
 use registers::Registers;
@@ -10,7 +10,7 @@ ghost use lib.Dec.{eqb};
 ghost use Rattle.word.specs.Value.{bytesOf};
 ghost use Rattle.memory.specs.Memory.{accessOf, writeOf};
 ghost use Rattle.registers.specs.Places.{corbrp, corbwp, corbsize, byteAt, has};
-ghost use Rattle.rings.specs.Rings.{ringsOf, entriesOf, entryAt, reportedOf, thresholdOf, countedOf, nextResponse, responseOf, answeredOf, currentOf, nextCommand, executedOf, fetchOf, commandAs, fetchesOf, idleOf, runningOf, commandsOf, immediately, immediateAllowed, repliedOf, immediateOf};
+ghost use Rattle.rings.specs.Rings.{ringsOf, entriesOf, entryAt, reportedOf, thresholdOf, countedOf, nextResponse, responseOf, answeredOf, currentOf, nextCommand, executedOf, fetchOf, commandAs, fetchesOf, idleOf, runningOf, commandsOf};
 
 // The link behind the rings: the codec, and how many responses have not been reported by an interrupt.
 pub struct Link {
@@ -275,47 +275,4 @@ pub fn commands(dma: bool, regs: &mut Registers, link: Link, memory: &mut [u8]) 
     }
     let after = fetches(regs, link, memory);
     idle(regs, after)
-}
-
-// Whether an immediate command may run.
-fn allowed(regs: &Registers) -> bool
-    ensures { λ r. ⌜ r ≡ immediateAllowed (now (regs .entry)) ⌝ }
-{
-    any(1, regs[registers::GCTL])
-        & (!any(2, regs[registers::CORBCTL])
-            | (word::get16(regs, registers::CORBWP) == word::get16(regs, registers::CORBRP)))
-}
-
-// The reply to an immediate command into its registers.
-fn replied(regs: &mut Registers, reply: Reply)
-    ensures { λ _. ⌜ ((c : Codec) → immediately (now (regs .exit)) c ≡ repliedOf (now (regs .entry)) c reply) ⌝ }
-{
-    match reply {
-        Reply::Nothing => {
-            regs[registers::ICIS] |= 1;
-        }
-        Reply::Value(v) => {
-            word::put32(regs, registers::ICII, v);
-            regs[registers::ICIS] = 2;
-        }
-    }
-}
-
-// A byte written to the immediate command's status.
-pub fn immediate(regs: &mut Registers, codec: Codec, byte: u8) -> Codec
-    ensures { λ r. ⌜ immediately (now (regs .exit)) r ≡ immediateOf (now (regs .entry)) codec byte ⌝ }
-{
-    regs[registers::ICIS] &= !(byte & 2);
-    if !any(1, byte) {
-        regs[registers::ICIS] &= 0xfe;
-        return codec;
-    }
-    if !allowed(regs) {
-        return codec;
-    }
-    let command = word::get32(regs, registers::ICOI);
-    let outcome = codec.verb(command);
-    let reply = outcome.reply;
-    replied(regs, reply);
-    outcome.codec
 }

@@ -3,8 +3,8 @@ use mathlib.Core.Path.{refl}
 use lib.Ieee.{mul, ofInt, ofBits}
 use Rattle.gain.specs.Gain.{patterns, factor, gainOf, wholeOf, rounded, scaled}
 use Rattle.clock.specs.Clock.{advanceOf}
+use Rattle.node.specs.Parameters.{parameterOf}
 use Rattle.codec.specs.Codecs.{verbOf}
-use Rattle.codec.specs.Parameters.{parameterOf}
 use Rattle.worked.specs.Marked.{Marked}
 
 pub worked : Marked

@@ -15,10 +15,10 @@ load-spec =
     (λ c.
     let pin = c .before .before in
     rw (
-      pin .before .before .before .load .ensures,
-      pin .before .before .load2 .ensures,
-      pin .before .load3 .ensures,
-      pin .load4 .ensures,
-      c .before .load5 .ensures,
-      c .load6 .ensures,
+      pin .before .before .before .load-node .ensures,
+      pin .before .before .load-node2 .ensures,
+      pin .before .load-node3 .ensures,
+      pin .load-node4 .ensures,
+      c .before .load-node5 .ensures,
+      c .load-node6 .ensures,
     )))

@@ -29,7 +29,7 @@ loop-again c =
     let i = turn .loop .i in (
       omega arith,
       omega arith,
-      ap (putFrom (i + 1) at self) (stored .store .ensures)
+      ap (putFrom (i + 1) at self) (stored .store-node .ensures)
           ∙ put-next self (held-well-formed self _ (start .good .0)) at (turn .loop .bytes) i (omega arith) (omega arith)
           ∙ turn .loop .inv .2,
     )

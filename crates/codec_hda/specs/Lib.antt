@@ -1,0 +1,3 @@
+pub mod HdaParameters
+pub mod HdaVerbs
+pub mod Exceptions
