@@ -24,8 +24,9 @@ use Rattle.device.specs.declared.Hda.{Hda}
 use Rattle.device.specs.Devices.{listSize}
 use Rattle.device.specs.Machines.{Machine, Done, checkMachine, finishOf, withCommanded, commandedOf}
 use Rattle.device.proofs.Facts.{answer-number, finish-number}
-use Rattle.advance.specs.Advance.{tickedOf, runs, Turns, turnsOf, takenOf, turnAt, goesOn, serveOf, numberOf, ServeNeeds, afterCommands, advanceStep, advanceOf}
-use Rattle.advance.proofs.Turns.{length-part, turn-needs, needs-again}
+use Rattle.serve.specs.Serve.{runs, Turns, turnsOf, takenOf, turnAt, goesOn, serveOf, ServeNeeds}
+use Rattle.advance.specs.Advance.{tickedOf, numberOf, afterCommands, advanceStep, advanceOf}
+use Rattle.serve.proofs.Turns.{length-part, turn-needs, needs-again}
 use Rattle.advance.proofs.Outcomes.{step-needs, serve-needs}
 
 finished-number : (refused : Bool) (d : Hda) (h : Host) → finishOf (numberOf refused) d h .number ≤ 1

@@ -1,4 +1,3 @@
--- The laws of specs/: a stream's turn and the loop over the streams, the calls' ways out; facts for callers.
-pub mod Turns
+-- The calls' ways out; facts for callers.
 pub mod Outcomes
 pub mod Facts

@@ -14,8 +14,9 @@ use Rattle.device.specs.declared.Answer.{Answer}
 use Rattle.device.specs.Machines.{Commanded, machine, checkOf, answerOf, doneOf, finishOf, commanded, commandedOf}
 use Rattle.device.proofs.Checks.{passed}
 use Rattle.device.proofs.Facts.{commanded-streams}
-use Rattle.advance.specs.declared.Served.{Served}
-use Rattle.advance.specs.Advance.{tickedOf, turnsAnswer, serveOf, numberOf, ServeNeeds, afterCommands, advanceStep, advanceOf}
+use Rattle.serve.specs.declared.Served.{Served}
+use Rattle.serve.specs.Serve.{turnsAnswer, serveOf, ServeNeeds}
+use Rattle.advance.specs.Advance.{tickedOf, numberOf, afterCommands, advanceStep, advanceOf}
 
 module _ (nanos : ℕ) (d : Hda) (h : Host) (l q m : List ℕ) where
   -- DMA may not run, or it may

@@ -19,7 +19,7 @@ use Rattle.host.specs.Hosts as hosts
 use Rattle.queue.proofs.Tests.{left, right}
 use Rattle.queue.proofs.Validity.{queue-bound}
 use Rattle.host.proofs.Checks.{valid-queue}
-use Rattle.pci.specs.Configuration.{identity}
+use Rattle.configuration.specs.Configuration.{identity}
 use Rattle.device.specs.declared.Hda.{Hda}
 use Rattle.device.specs.Devices.{listSize, streamAt, streamValid, validOf}
 use Rattle.device.specs.Machines.{shortOf, checkOf}

@@ -14,7 +14,6 @@ use Rattle.word.specs.Value.{valueOf}
 use Rattle.word.specs.Place.{wordAt}
 use Rattle.word.specs.Parts.{partOf, withPart}
 use Rattle.word.proofs.Parts.{part-same, part-other}
-use Rattle.codec.specs.Codecs as codec
 use Rattle.stream.specs.declared.Stream.{Stream}
 use Rattle.stream.specs.Box.{streams}
 use Rattle.stream.specs.Streams as stream
@@ -24,15 +23,11 @@ use Rattle.queue.specs.Queues.{capacity}
 use Rattle.host.specs.Hosts as hosts
 use Rattle.queue.proofs.Tests.{by-cond}
 use Rattle.host.proofs.Validity as host-laws
-use Rattle.word.proofs.Each.{each-keeps}
-use Rattle.rings.specs.declared.Link.{Link}
-use Rattle.rings.specs.Rings.{linkOf}
 use Rattle.pci.specs.declared.Msi.{Msi}
-use Rattle.pci.specs.Configuration as pci
+use Rattle.configuration.specs.Configuration as pci
 use Rattle.device.specs.declared.Hda.{Hda}
 use Rattle.device.specs.Devices.{listSize, withStream, freshOf, streamValid, validOf}
-use Rattle.device.specs.declared.Ports.{Ports}
-use Rattle.device.specs.Machines.{shortOf, checkOf, answerOf, finishOf, commandedOf, resetAt, resetControllerOf, settleAt, settleOf}
+use Rattle.device.specs.Machines.{shortOf, checkOf, answerOf, finishOf, commandedOf}
 use Rattle.device.proofs.Checks.{device-parts, parts-device, passes}
 
 -- a check gives 0, 9 or 10
@@ -125,26 +120,11 @@ module _ (d : Hda) (l : List ℕ) (i : ℕ) (few : i < streams) (s : Stream) (pa
         streams = λ j less. ⊎-elim (λ (b : j ≡ i). rw b (same e)) (λ (b : (j < i) ⊎ (i < j)). other j b ∙ v .streams j less) (apart j i);
       })
 
--- waiting commands leave the streams as they are, and settling leaves the link; a reset leaves no response unreported
+-- waiting commands leave the streams as they are
 
 pub commanded-streams : (d : Hda) (m : List ℕ) → commandedOf d m .hda .streams ≡ d .streams
 unfolding commandedOf
 commanded-streams d m = refl
-
-pub settle-link : (old : List ℕ) (x : Ports) → settleOf old x .hda .link ≡ x .hda .link
-unfolding settleOf
-settle-link old x = each-keeps (λ y. y .hda .link ≡ x .hda .link) (settleAt old) streams (λ i y few e. e) streams 0 x (omega arith) refl
-
-pub reset-link : (x : Ports) → resetControllerOf x .hda .link ≡ linkOf codec.freshOf 0
-unfolding resetControllerOf
-reset-link x =
-    each-keeps (λ y. y .hda .link ≡ linkOf codec.freshOf 0) resetAt streams (λ i y few e. e) streams 0 _ (omega arith) refl
-
-pub settle-responses : (old : List ℕ) (x : Ports) → settleOf old x .hda .link .responses ≤ x .hda .link .responses
-settle-responses old x = omega (arith, ap (λ (k : Link). k .responses) (settle-link old x))
-
-pub reset-responses : (x : Ports) → resetControllerOf x .hda .link .responses ≤ x .hda .link .responses
-reset-responses x = omega (arith, ap (λ (k : Link). k .responses) (reset-link x))
 
 -- an answer has the number that it was given
 pub answer-number : (n : ℕ) (msi : Msi) (d : Hda) (h : Host) → answerOf n msi d h .number ≡ n

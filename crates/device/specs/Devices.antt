@@ -16,7 +16,7 @@ use Rattle.stream.specs.Box.{streams}
 use Rattle.registers.specs.Reset.{resetOf}
 use Rattle.rings.specs.declared.Link.{Link}
 use Rattle.rings.specs.Rings.{linkOf}
-use Rattle.pci.specs.Configuration as pci
+use Rattle.configuration.specs.Configuration as pci
 use Rattle.device.specs.declared.Hda.{Hda}
 
 -- bytes of a stream's part of the lent list space: 8 for each of 4,352 places

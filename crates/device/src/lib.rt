@@ -1,9 +1,8 @@
-// The device record, the check before every call, and the steps that calls share: waiting commands, the end of a call, the controller's reset, and what a write
-// does to the streams after its last byte (the Rust's `Hda`, `reset_controller`, the end of its `write`).
+// The device record, the check before every call, and the steps that calls share: waiting commands and the end of a call (the Rust's `Hda`).
 use clock::Clock;
 use codec::Codec;
+use configuration::Config;
 use host::Host;
-use pci::Config;
 use pci::Msi;
 use registers::Registers;
 use rings::Link;
@@ -15,7 +14,7 @@ ghost use lib.ListN.{length};
 ghost use Rattle.stream.specs.Box.{streams};
 ghost use Rattle.pci.specs.declared.Msi.the-variants.{None};
 ghost use Rattle.device.specs.Devices.{listSize, freshOf, streamsValid, validOf};
-ghost use Rattle.device.specs.Machines.{shortOf, checkOf, answerOf, finishOf, commanded, commandedOf, ports, clearedOf, resetControllerOf, settleOf};
+ghost use Rattle.device.specs.Machines.{shortOf, checkOf, answerOf, finishOf, commanded, commandedOf};
 
 // The device. Its positions and the bytes of its queues stand in lent space.
 pub struct Hda {
@@ -28,12 +27,6 @@ pub struct Hda {
     pub paused: bool,
     // Whether a message interrupt is asserted: its message is not sent again.
     pub asserted: bool,
-}
-
-// The device and the host end.
-pub struct Ports {
-    pub hda: Hda,
-    pub host: Host,
 }
 
 // What a call answers beside the lent spaces: document 01's number, the INTx level it leaves, a message to send, and the device and the host end.
@@ -63,7 +56,7 @@ impl Hda {
         };
         let s = Stream::fresh();
         Hda {
-            config: pci::fresh(),
+            config: configuration::fresh(),
             regs: registers::reset(),
             link: link,
             streams: [s; STREAMS],
@@ -170,67 +163,5 @@ impl Hda {
     {
         let none = Msi::None;
         self.answered(host, number, none)
-    }
-
-    // Registers, codec, clock and responses at reset, and no message asserted; the streams stay.
-    fn cleared(self) -> Hda
-        ensures { λ r. ⌜ r ≡ clearedOf self ⌝ }
-    {
-        let link = Link {
-            codec: Codec::fresh(),
-            responses: 0,
-        };
-        let config = self.config;
-        let streams = self.streams;
-        Hda {
-            config: config,
-            regs: registers::reset(),
-            link: link,
-            streams: streams,
-            clock: Clock::fresh(),
-            microphone: self.microphone,
-            paused: self.paused,
-            asserted: false,
-        }
-    }
-
-    // The controller at reset: registers, codec, clock and responses, and every stream; the configuration, the microphone and the pause stay.
-    pub fn reset_controller(self, host: Host) -> Ports
-        ensures { λ r. ⌜ r ≡ resetControllerOf (ports self host) ⌝ }
-    {
-        let mut d = self.cleared();
-        let mut h = host;
-        let count = STREAMS;
-        let mut index = 0;
-        while index < count {
-            let s = d.streams[index];
-            let a = control::reset(&mut d.regs, s, h, index);
-            let next = a.stream;
-            d.streams[index] = next;
-            h = a.host;
-            index += 1;
-        }
-        Ports { hda: d, host: h }
-    }
-
-    // What a write does to the streams after its last byte, `old` being the registers before the write.
-    pub fn settle(self, host: Host, old: &Registers) -> Ports
-        ensures { λ r. ⌜ r ≡ settleOf (now (old .entry)) (ports self host) ⌝ }
-    {
-        let mut d = self;
-        let mut h = host;
-        let count = STREAMS;
-        let mut index = 0;
-        while index < count {
-            let before = old[registers::STREAM_BASE + registers::STREAM_SIZE * index];
-            let microphone = d.microphone;
-            let s = d.streams[index];
-            let a = control::settle(&mut d.regs, s, h, before, microphone, index);
-            let next = a.stream;
-            d.streams[index] = next;
-            h = a.host;
-            index += 1;
-        }
-        Ports { hda: d, host: h }
     }
 }

@@ -1,4 +1,4 @@
--- Configuration writes, pin changes and the pause. Assumes nothing.
+-- Writes by base address, configuration writes, pin changes and the pause. Assumes nothing.
 use Prim.Native.Nat.{ℕ, _+_, _*_, _%_, _^_, _≤_, _<_}
 use mathlib.Core.Path.{_≡_, refl, sym}
 use mathlib.Core.Bool.{Bool, true, false, _&&_, _||_, true≢false}
@@ -11,14 +11,27 @@ use lib.Dec.{eqb}
 use Rattle.rings.specs.declared.Link.{Link}
 use Rattle.rings.specs.Rings.{ringsOf, responseOf}
 use Rattle.pci.specs.declared.Msi.the-variants.{None}
-use Rattle.pci.specs.Configuration as pci
+use Rattle.configuration.specs.Configuration as pci
 use Rattle.host.specs.declared.Host.{Host}
 use Rattle.device.specs.declared.Hda.{Hda}
 use Rattle.device.specs.declared.Answer.{Answer}
 use Rattle.device.specs.Devices.{withConfig, withRegs, withLink, withPaused}
-use Rattle.device.specs.Machines.{Machine, Done, doneOf, ports, checkOf, answerOf, finishOf, Commanded, commanded}
-use Rattle.hda.specs.Writes.{tailedOf}
-use Rattle.hda.specs.Calls.{configWriteStep, pinControl, unsolicited, listens, pinStep, pauseOf}
+use Rattle.settle.specs.Settle.{ports}
+use Rattle.device.specs.Machines.{Machine, Done, doneOf, checkMachine, checkOf, answerOf, finishOf, Commanded, commanded}
+use Rattle.write.specs.Writes.{tailedOf, writeOf}
+use Rattle.write.proofs.Checked.{dropped}
+use Rattle.hda.specs.Calls.{barWriteOf, configWriteStep, pinControl, unsolicited, listens, pinStep, pauseOf}
+
+-- the first base address is the registers, another drops the write
+module _ (bar offset : ℕ) (bytes : List ℕ) (x : Machine) where
+  pub bar-registers : (r : Done) → bar ≡ 0 → r ≡ writeOf offset bytes x → r ≡ barWriteOf bar offset bytes x
+  unfolding barWriteOf
+  bar-registers r b er = rw (er, eq-eqb bar 0 b)
+
+  pub bar-dropped : (n : ℕ) (a : Answer) → bar ≢ 0 → n ≡ checkMachine x → a ≡ answerOf n None (x .hda) (x .host)
+      → doneOf a (x .lists) (x .queues) (x .memory) ≡ barWriteOf bar offset bytes x
+  unfolding barWriteOf
+  bar-dropped n a b e ea = rw (ne-eqb bar 0 b) (dropped x n a e ea)
 
 -- an address past 64 bits, and one within
 module _ (register offset : ℕ) (bytes : List ℕ) (x : Machine) where

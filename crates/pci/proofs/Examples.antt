@@ -8,7 +8,7 @@ use Rattle.word.specs.Place.{wordAt, storeAt}
 use Rattle.word.specs.Each.{eachOf}
 use Rattle.registers.specs.Places.{intctl, ctl, sts}
 use Rattle.pci.specs.declared.Msi.the-variants.{None, Message}
-use Rattle.pci.specs.Configuration.{freshOf, readOf, writeByteOf, writeOf}
+use Rattle.configuration.specs.Configuration.{freshOf, readOf, writeByteOf, writeOf}
 use Rattle.pci.specs.Interrupts.{sourcesOf, statusOf, pendingOf, levelOf, signalOf, updateOf}
 
 -- the definitions that a run computes through

@@ -20,9 +20,9 @@ use Rattle.stream.specs.Box.{streams}
 use Rattle.registers.specs.Places.{wakeen, statests, intctl, intsts, corbctl, corbsts, rirbctl, rirbsts, ctl, sts, byteAt, withBits, keepBits}
 use Rattle.pci.specs.declared.Msi.{Msi}
 use Rattle.pci.specs.declared.Msi.the-variants.{None, Message}
-use Rattle.pci.specs.Configuration.{identity, freshOf, writeByteOf, writeOf}
+use Rattle.configuration.specs.Configuration.{identity, freshOf, writeByteOf, writeOf}
 use Rattle.pci.specs.Interrupts.{controllerOf, streamOf, sourcesOf, statusOf, pendingOf, messages, levelOf, sentOf, messageOf, updateOf}
-use Rattle.pci.proofs.Writes.{both, byte-by}
+use Rattle.configuration.proofs.Writes.{both, byte-by}
 use Rattle.pci.proofs.Scan.{found}
 
 -- A new device's configuration.

@@ -11,9 +11,9 @@ use Rattle.gain.specs.Gain.{amplifiedOf}
 use Rattle.gain.proofs.Laws.{amplified-length}
 use Rattle.stream.specs.declared.Stream.{Stream}
 use Rattle.stream.specs.declared.Cyclic.{Cyclic}
-use Rattle.stream.specs.Plans.{readyOf}
-use Rattle.stream.specs.Pieces.{stateOf, piecesOf}
-use Rattle.stream.proofs.Facts.{pieces-list-length, pieces-memory-length, pieces-pcm-length}
+use Rattle.plan.specs.Plans.{readyOf}
+use Rattle.pieces.specs.Pieces.{stateOf, piecesOf}
+use Rattle.pieces.proofs.Facts.{pieces-list-length, pieces-memory-length, pieces-pcm-length}
 use Rattle.queue.specs.declared.Queue.{Queue}
 use Rattle.queue.specs.Queues.{takeOf, putOf}
 use Rattle.queue.proofs.Tests.{by-cond}

@@ -8,8 +8,8 @@ use Rattle.gain.specs.declared.Gain.{Gain}
 use Rattle.gain.specs.Gain.{amplifiedOf}
 use Rattle.stream.specs.declared.Stream.{Stream}
 use Rattle.stream.specs.declared.Cyclic.{Cyclic}
-use Rattle.stream.specs.Plans.{readyOf}
-use Rattle.stream.specs.Pieces.{Out, stateOf, piecesOf}
+use Rattle.plan.specs.Plans.{readyOf}
+use Rattle.pieces.specs.Pieces.{Out, stateOf, piecesOf}
 use Rattle.queue.specs.declared.Queue.{Queue}
 use Rattle.queue.specs.Queues.{capacity, Moved, movedOf, putOf, takeOf}
 use Rattle.transfer.specs.declared.Transferred.{Transferred}

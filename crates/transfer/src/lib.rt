@@ -68,7 +68,7 @@ fn capture(
     ensures { λ r. ⌜ leftOf r (now (list .exit)) (now (part .exit)) (now (memory .exit)) ≡ captureOf g s q connected left right (now (list .entry)) (now (part .entry)) (now (memory .entry)) count ⌝ }
 {
     let queue = captured(q, connected, left, right, part, pcm);
-    let step = stream::pieces(g, s, list, memory, pcm, count);
+    let step = pieces::pieces(g, s, list, memory, pcm, count);
     let next = step.stream;
     Transferred {
         ok: step.ok,
@@ -106,7 +106,7 @@ fn playback(
     requires { ⌜ TransferNeeds q count (now list) (now part) × (0 < g .cbl) × (now pcm ≡ silence count) ⌝ }
     ensures { λ r. ⌜ leftOf r (now (list .exit)) (now (part .exit)) (now (memory .exit)) ≡ playbackOf g s q connected left right (now (list .entry)) (now (part .entry)) (now (memory .entry)) count ⌝ }
 {
-    let step = stream::pieces(g, s, list, memory, pcm, count);
+    let step = pieces::pieces(g, s, list, memory, pcm, count);
     let next = step.stream;
     if !step.ok {
         return Transferred {
@@ -143,7 +143,7 @@ pub fn transfer(
     requires { ⌜ TransferNeeds q count (now list) (now part) ⌝ }
     ensures { λ r. ⌜ leftOf r (now (list .exit)) (now (part .exit)) (now (memory .exit)) ≡ transferOf g s q connected left right (now (list .entry)) (now (part .entry)) (now (memory .entry)) count ⌝ }
 {
-    if !stream::ready(g) {
+    if !plan::ready(g) {
         return Transferred {
             ok: false,
             full: false,

@@ -11,13 +11,13 @@ use Rattle.word.specs.Value.{bytesOf}
 use Rattle.memory.specs.Memory.{writeOf}
 use Rattle.stream.specs.declared.Stream.{Stream}
 use Rattle.stream.specs.declared.Cyclic.{Cyclic}
-use Rattle.stream.specs.declared.End.{End}
-use Rattle.stream.specs.declared.End.the-variants.{Inside, Plain, Flagged}
+use Rattle.plan.specs.declared.End.{End}
+use Rattle.plan.specs.declared.End.the-variants.{Inside, Plain, Flagged}
 use Rattle.stream.specs.Streams.{places}
-use Rattle.stream.specs.Plans.{readyOf}
-use Rattle.stream.specs.Pieces.{EndOk, nextOf, stateOf, State, piecesOf}
+use Rattle.plan.specs.Plans.{readyOf}
+use Rattle.pieces.specs.Pieces.{EndOk, nextOf, stateOf, State, piecesOf}
 use Rattle.stream.specs.Update.{updateOf}
-use Rattle.stream.proofs.Turns.{pieces-keep}
+use Rattle.pieces.proofs.Turns.{pieces-keep}
 use Rattle.queue.specs.declared.Queue.{Queue}
 use Rattle.queue.specs.Queues.{capacity, putOf, takeOf}
 use Rattle.queue.proofs.Tests.{by-cond}

@@ -13,10 +13,11 @@ use Rattle.stream.specs.declared.Stream.{Stream}
 use Rattle.stream.specs.declared.Cyclic.{Cyclic}
 use Rattle.stream.specs.Box.{captures}
 use Rattle.stream.specs.Streams.{validOf}
-use Rattle.stream.specs.Plans.{readyOf}
-use Rattle.stream.specs.Pieces.{stateOf}
-use Rattle.stream.proofs.Facts.{pieces-list-length}
-use Rattle.stream.proofs.Validity.{valid-parts, parts-valid, pieces-valid, update-list-length, update-valid}
+use Rattle.plan.specs.Plans.{readyOf}
+use Rattle.pieces.specs.Pieces.{stateOf}
+use Rattle.pieces.proofs.Facts.{pieces-list-length}
+use Rattle.pieces.proofs.Validity.{pieces-valid}
+use Rattle.stream.proofs.Validity.{valid-parts, parts-valid, update-list-length, update-valid}
 use Rattle.queue.specs.declared.Queue.{Queue}
 use Rattle.host.specs.declared.Host.{Host}
 use Rattle.host.specs.declared.Opening.{Opening}

@@ -1,7 +1,7 @@
 -- `bar_write` meets its contract: the registers' write, or none. Assumes nothing.
 use borrow.Author.Needs.{needs}
 use Rattle.device.specs.Machines.{machine, doneOf}
-use Rattle.hda.proofs.Writing.{bar-registers, bar-dropped}
+use Rattle.hda.proofs.Changing.{bar-registers, bar-dropped}
 use Rattle.hda.proofs.bar_write.Statement.{statement}
 use Rattle.hda.proofs.bar_write.Tie as tie
 

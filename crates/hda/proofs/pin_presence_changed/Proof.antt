@@ -2,7 +2,7 @@
 use borrow.Author.Needs.{needs}
 use Rattle.device.specs.Machines.{machine, doneOf}
 use Rattle.hda.specs.Calls.{pinStep, pinOf}
-use Rattle.hda.proofs.Checked.{refused, called, few}
+use Rattle.write.proofs.Checked.{refused, called, few}
 use Rattle.hda.proofs.pin_presence_changed.Statement.{statement}
 use Rattle.hda.proofs.pin_presence_changed.Tie as tie
 

@@ -2,7 +2,7 @@
 use mathlib.Core.Path.{subst}
 use native.Mathlib.Omega.{arith}
 use borrow.Author.Needs.{needs}
-use Rattle.stream.specs.Pieces.{stepOut}
+use Rattle.pieces.specs.Pieces.{stepOut}
 use Rattle.transfer.proofs.Laws.{silent-length, silent-own, Captures, capture-left}
 use Rattle.transfer.proofs.capture.Statement.{statement}
 use Rattle.transfer.proofs.capture.Tie as tie

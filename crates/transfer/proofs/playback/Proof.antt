@@ -3,7 +3,7 @@ use mathlib.Core.Path.{_∙_}
 use native.Mathlib.Omega.{arith}
 use borrow.Author.Needs.{needs}
 use borrow.Author.Tests.{not-true, not-false}
-use Rattle.stream.specs.Pieces.{stepOut}
+use Rattle.pieces.specs.Pieces.{stepOut}
 use Rattle.queue.specs.Queues.{movedOf}
 use Rattle.transfer.proofs.Laws.{silent-length, playback-failed, playback-queued}
 use Rattle.transfer.proofs.playback.Statement.{statement}

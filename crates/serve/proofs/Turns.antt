@@ -1,0 +1,113 @@
+-- Laws of a stream's turn and of the loop over the streams: what a turn requires, its two ways out, and that what it leaves meets what the next one
+-- requires. Assumes nothing.
+use Prim.Native.Nat.{ℕ, zero, suc, _+_, _*_, _≤_, _<_}
+use mathlib.Core.Path.{_≡_, refl, sym, ap}
+use mathlib.Core.Bool.{Bool, true, false, not}
+use mathlib.Core.List.{List, [], _∷_, _++_}
+use native.Mathlib.Omega.{arith}
+use borrow.Author.Tests.{eqb-true, eqb-false}
+use lib.Dec.{eqb}
+use lib.ListN.{length, take, drop, getD, set, length-drop}
+use lib.Seq.{length-take-le}
+use Rattle.word.specs.Each.{eachOf}
+use Rattle.word.proofs.Each.{each-step, each-stop}
+use Rattle.stream.specs.declared.Stream.{Stream}
+use Rattle.stream.specs.Streams.{places, freshOf}
+use Rattle.stream.specs.Box.{streams}
+use Rattle.host.specs.declared.Host.{Host}
+use Rattle.queue.specs.Queues.{capacity}
+use Rattle.host.specs.Hosts.{queueAt}
+use Rattle.queue.proofs.Tests.{by-cond}
+use Rattle.turn.specs.declared.Turned.{Turned}
+use Rattle.turn.specs.Turns.{Turn, turnOut, turnOf, TurnNeeds}
+use Rattle.turn.proofs.Leaves.{TurnLeaves, turn-leaves}
+use Rattle.device.specs.declared.Hda.{Hda}
+use Rattle.device.specs.Devices.{listSize, withRegs, withStream, streamAt}
+use Rattle.device.specs.Machines.{Machine, machine}
+use Rattle.serve.specs.declared.Served.{Served}
+use Rattle.serve.specs.Serve.{runs, Turns, turnsOf, turnsAnswer, takenOf, turnAt, goesOn, ServeNeeds}
+
+-- what holds of the element put, and held of each, holds of each
+set-keeps : {A : Type 0} (P : A → Type 0) (l : List A) (i j : ℕ) (v d : A) → P v → P (getD l j d) → P (getD (set l i v) j d)
+set-keeps P [] i j v d p h = h
+set-keeps P (x ∷ l) zero zero v d p h = p
+set-keeps P (x ∷ l) zero (suc j) v d p h = h
+set-keeps P (x ∷ l) (suc i) zero v d p h = h
+set-keeps P (x ∷ l) (suc i) (suc j) v d p h = set-keeps P l i j v d p h
+
+-- a part that the space has room for is whole
+pub length-part : (size i j : ℕ) (space : List ℕ) → size * i + j ≤ length space → length (take j (drop (size * i) space)) ≡ j
+length-part size i j space h = length-take-le j (drop (size * i) space) (omega (arith, length-drop (size * i) space))
+
+-- what stream i's turn requires; `j` and `k` are the lengths of the lent parts, as the code computes them
+pub turn-needs : (x : Machine) (i j k : ℕ) → ServeNeeds x → i < streams → j ≡ listSize → k ≡ capacity
+    → TurnNeeds (x .host) i capacity (streamAt (x .hda) i) (take j (drop (listSize * i) (x .lists))) (take k (drop (capacity * i) (x .queues)))
+turn-needs x i j k needs few ej ek =
+    record {
+      stream = few;
+      pending = needs .pending i few;
+      queued = needs .queued i few;
+      limited = omega arith;
+      long = omega (arith, length-part listSize i j (x .lists) (omega (arith, needs .lists)));
+      space = omega (arith, length-part capacity i k (x .queues) (omega (arith, needs .queues)));
+    }
+
+module _ (nanos i : ℕ) (d : Hda) (h : Host) (l q m : List ℕ) where
+  -- a stream that takes no turn
+  pub turn-none : runs (d .regs) i ≡ false → turnsOf false (machine d h l q m) ≡ turnAt nanos i (turnsOf false (machine d h l q m))
+  unfolding turnAt
+  turn-none e = rw e
+
+  -- one that takes a turn: its parts lent, and what comes back
+  pub turn-taken : (j k : ℕ) (t : Turned) (regs′ l′ q′ m′ : List ℕ) → runs (d .regs) i ≡ true → j ≡ listSize → k ≡ capacity
+      → turnOut t regs′ l′ q′ m′
+      ≡ turnOf (d .regs) (d .link .codec) h (d .microphone) i nanos capacity (streamAt d i) (take j (drop (listSize * i) l)) (take k (drop (capacity * i) q)) m
+      → turnsOf (t .refused)
+      (machine (withStream (withRegs d regs′) i (t .stream)) (t .host) (take (listSize * i) l ++ (l′ ++ drop j (drop (listSize * i) l)))
+      (take (capacity * i) q ++ (q′ ++ drop k (drop (capacity * i) q))) m′)
+      ≡ turnAt nanos i (turnsOf false (machine d h l q m))
+  unfolding turnAt
+  turn-taken j k t regs′ l′ q′ m′ e ej ek et =
+      let et′ = rw (ej, ek) at et in
+      rw (e, ej, ek, ← et′)
+
+-- every stream's list and queue within its limits
+record Within (x : Machine) : Type 0 where
+  pending : (j : ℕ) → j < streams → streamAt (x .hda) j .pending ≤ places
+  queued : (j : ℕ) → j < streams → queueAt (x .host) j .length ≤ capacity
+
+taken-within : (i : ℕ) (x : Machine) (t : Turn) → ServeNeeds x → TurnLeaves (x .host) i t → Within (takenOf i x t .machine)
+taken-within i x t needs leaves =
+    record {
+      pending = λ j few. set-keeps (λ (s : Stream). s .pending ≤ places) (x .hda .streams) i j (t .turned .stream) freshOf (leaves .pending) (needs .pending j few);
+      queued = λ j few. go j few (eqb j i) refl;
+    }
+  where
+    go : (j : ℕ) → j < streams → (b : Bool) → eqb j i ≡ b → queueAt (t .turned .host) j .length ≤ capacity
+    go j few true e = rw (eqb-true j i e) (leaves .queued)
+    go j few false e = rw (leaves .others j (eqb-false j i e)) (needs .queued j few)
+
+turn-within : (nanos i : ℕ) (w : Turns) → i < streams → ServeNeeds (w .machine) → Within (turnAt nanos i w .machine)
+unfolding turnAt
+turn-within nanos i w few needs =
+    by-cond (λ (y : Turns). Within (y .machine)) (runs (w .machine .hda .regs) i) _ _
+    (λ e. taken-within i (w .machine) _ needs (turn-leaves _ _ _ _ _ _ _ _ _ _ _ (turn-needs (w .machine) i listSize capacity needs few refl refl)))
+    (λ e. record { pending = needs .pending; queued = needs .queued })
+
+-- the next turn's needs, where the lent spaces keep their lengths
+pub needs-again : (nanos i : ℕ) (w y : Turns) → i < streams → ServeNeeds (w .machine) → y ≡ turnAt nanos i w
+    → length (y .machine .lists) ≡ length (w .machine .lists) → length (y .machine .queues) ≡ length (w .machine .queues) → ServeNeeds (y .machine)
+needs-again nanos i w y few needs e el eq =
+    let within : Within (y .machine) = rw e (turn-within nanos i w few needs) in
+    record { lists = omega (arith, needs .lists); queues = omega (arith, needs .queues); pending = within .pending; queued = within .queued }
+
+-- a round of the loop over the streams: after a turn with no refusal, and after one with a refusal
+module _ (nanos count i : ℕ) (x : Machine) (r : Served) (l q m : List ℕ) (few : i < count) (e : turnsAnswer r l q m ≡ turnAt nanos i (turnsOf false x)) where
+  pub serve-step : (n : ℕ) → i + n ≡ count → r .refused ≡ false
+      → (k : ℕ) × (i + 1 + k ≡ count)
+      × (eachOf goesOn (turnAt nanos) n i (turnsOf false x)
+      ≡ eachOf goesOn (turnAt nanos) k (i + 1) (turnsOf false (machine (r .hda) (r .host) l q m)))
+  serve-step n en z = each-step goesOn (turnAt nanos) count i n _ (turnsOf false (machine (r .hda) (r .host) l q m)) en few (rw z at e) refl
+
+  pub serve-stop : (n : ℕ) → i + n ≡ count → r .refused ≡ true → turnsAnswer r l q m ≡ eachOf goesOn (turnAt nanos) n i (turnsOf false x)
+  serve-stop n en z = sym (each-stop goesOn (turnAt nanos) count i n _ _ en few e (ap not z))

@@ -1,0 +1,106 @@
+-- `serve` meets its contract. The invariant: what the next turn requires holds, and the streams from `index` on leave what all of them leave of the machine as
+-- it was where the loop began. Assumes nothing.
+use Prim.Native.Nat.{ℕ, _+_, _-_}
+use mathlib.Core.Path.{_≡_, refl, sym, _∙_}
+use mathlib.Core.Bool.{false}
+use native.Mathlib.Omega.{arith}
+use lib.ListN.{length}
+use Rattle.word.specs.Each.{eachOf}
+use Rattle.word.proofs.Each.{each-end}
+use Rattle.stream.specs.Box.{streams}
+use Rattle.device.specs.Machines.{machine}
+use Rattle.serve.specs.Serve.{turnsOf, turnAt, goesOn, serveOf, ServeNeeds}
+use Rattle.serve.proofs.Turns.{needs-again, serve-step, serve-stop}
+use Rattle.serve.proofs.serve.Statement.{statement}
+use Rattle.serve.proofs.serve.Tie as tie
+
+abbrev Inv-loop : tie.InvT-loop
+Inv-loop lists₀ queues₀ memory₀ nanos count d₀ h₀ index₀ lists queues memory d h index =
+    (length lists ≡ length lists₀) × (length queues ≡ length queues₀) × (length memory ≡ length memory₀) × ServeNeeds (machine d h lists queues memory)
+    × (n : ℕ) × (index + n ≡ count)
+    × (eachOf goesOn (turnAt nanos) n index (turnsOf false (machine d h lists queues memory))
+    ≡ eachOf goesOn (turnAt nanos) count 0 (turnsOf false (machine d₀ h₀ lists₀ queues₀ memory₀)))
+
+abbrev μ-loop : tie.MeasureT-loop
+μ-loop lists₀ queues₀ memory₀ nanos count d₀ h₀ index₀ lists queues memory d h index = count - index
+
+loop-holds : tie.Need-loop-holds Inv-loop μ-loop
+loop-holds c = (refl, refl, refl, c .before .before .before .pre, streams, refl, refl)
+
+turn-at-requires : tie.Need-turn-at-requires Inv-loop μ-loop
+turn-at-requires c κs = (omega arith, c .before .before .before .before .loop .inv .3)
+
+same-length : tie.Need-same-length Inv-loop μ-loop
+same-length c = omega arith
+
+same-length-2 : tie.Need-same-length-2 Inv-loop μ-loop
+same-length-2 c = omega arith
+
+same-length-3 : tie.Need-same-length-3 Inv-loop μ-loop
+same-length-3 c = omega arith
+
+returns : tie.Need-returns Inv-loop μ-loop
+unfolding serveOf
+returns c =
+    let p = c .before .before .before .before .before .before .before in
+    let l = p .before .before .before .before .before .loop in
+    let x = machine (l .d) (l .h) (l .lists) (l .queues) (l .memory) in
+    serve-stop _ streams (l .index) x (p .turn-at .result) _ _ _ (p .before .before .before .before .loop-test .taken) (p .turn-at .ensures) (l .inv .4) (l .inv .5) (c .if1 .taken) ∙ l .inv .6
+
+add-index : tie.Need-add-index Inv-loop μ-loop
+add-index c = omega arith
+
+loop-less : tie.Need-loop-less Inv-loop μ-loop
+loop-less c = omega arith
+
+loop-again : tie.Need-loop-again Inv-loop μ-loop
+loop-again c =
+    let p = c .before .before .before .before .before .before .before .before .before in
+    let l = p .before .before .before .before .before .loop in
+    let kept = p .turn-at .kept .1 .1 in
+    let x = machine (l .d) (l .h) (l .lists) (l .queues) (l .memory) in
+    let k = serve-step _ streams (l .index) x (p .turn-at .result) _ _ _ (p .before .before .before .before .loop-test .taken) (p .turn-at .ensures) (l .inv .4) (l .inv .5)
+    (c .before .before .if1 .left) in (
+      kept .0 ∙ l .inv .0,
+      kept .1 .0 ∙ l .inv .1,
+      kept .1 .1 .0 ∙ l .inv .2,
+      needs-again _ (l .index) (turnsOf false x) _ (omega arith) (l .inv .3) (p .turn-at .ensures) (kept .0) (kept .1 .0),
+      k .0,
+      k .1,
+      sym (k .2) ∙ l .inv .6,
+    )
+
+same-length-4 : tie.Need-same-length-4 Inv-loop μ-loop
+same-length-4 c = omega arith
+
+same-length-5 : tie.Need-same-length-5 Inv-loop μ-loop
+same-length-5 c = omega arith
+
+same-length-6 : tie.Need-same-length-6 Inv-loop μ-loop
+same-length-6 c = omega arith
+
+returns-2 : tie.Need-returns-2 Inv-loop μ-loop
+unfolding serveOf
+returns-2 c =
+    let l = c .before .loop in
+    sym (each-end goesOn _ streams (l .index) (l .inv .4) _ (l .inv .5) (c .loop-test .left)) ∙ l .inv .6
+
+pub serve-spec : {M : Type 1} → statement M
+serve-spec =
+    tie.close
+    (tie.spec
+    Inv-loop
+    μ-loop
+    loop-holds
+    turn-at-requires
+    same-length
+    same-length-2
+    same-length-3
+    returns
+    add-index
+    loop-less
+    loop-again
+    same-length-4
+    same-length-5
+    same-length-6
+    returns-2)

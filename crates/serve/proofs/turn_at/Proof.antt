@@ -1,0 +1,120 @@
+-- `turn_at` meets its contract. Assumes nothing.
+use Prim.Native.Nat.{_+_, _-_, _*_}
+use mathlib.Core.Path.{sym, _∙_}
+use native.Mathlib.Omega.{arith}
+use borrow.Author.Needs.{needs}
+use borrow.Author.Tests.{not-true, not-false}
+use Rattle.stream.specs.Streams.{freshOf}
+use Rattle.queue.specs.Queues.{capacity}
+use Rattle.device.specs.Devices.{listSize}
+use Rattle.serve.proofs.Turns.{turn-needs, turn-none, turn-taken}
+use Rattle.serve.proofs.turn_at.Statement.{statement}
+use Rattle.serve.proofs.turn_at.Tie as tie
+
+is-running-requires : tie.Need-is-running-requires
+is-running-requires c κs = search needs
+
+returns : tie.Need-returns
+returns c =
+    let a = c .before .before .before .before .before .before .before .args in
+    turn-none (a .nanos) (a .index) (a .t1) (a .host) (a .lists .now) (a .queues .now) (a .memory .now)
+    (sym (c .before .is-running .ensures) ∙ not-true _ (c .if1 .taken))
+
+mul-list : tie.Need-mul-list
+mul-list c = search needs
+
+add-list-end : tie.Need-add-list-end
+add-list-end c = search needs
+
+mul-part : tie.Need-mul-part
+mul-part c = search needs
+
+add-part-end : tie.Need-add-part-end
+add-part-end c = search needs
+
+mul-s : tie.Need-mul-s
+mul-s c = search needs
+
+element-copy-out-s : tie.Need-element-copy-out-s
+element-copy-out-s c = search needs
+
+cast-turn : tie.Need-cast-turn
+cast-turn c = search needs
+
+sub-turn : tie.Need-sub-turn
+sub-turn c = search needs
+
+part-turn-start : tie.Need-part-turn-start
+part-turn-start c = search needs
+
+part-turn-end : tie.Need-part-turn-end
+part-turn-end c = search needs
+
+sub-turn-2 : tie.Need-sub-turn-2
+sub-turn-2 c = search needs
+
+part-turn-start-2 : tie.Need-part-turn-start-2
+part-turn-start-2 c = search needs
+
+part-turn-end-2 : tie.Need-part-turn-end-2
+part-turn-end-2 c = search needs
+
+turn-requires : tie.Need-turn-requires
+unfolding freshOf
+turn-requires c κs =
+    let s = c .before .before .before .before .before .before .before .before .before .before .before .before .before in
+    let i = s .args .index in
+    turn-needs _ i (listSize * i + listSize - listSize * i) (capacity * i + capacity - capacity * i) (s .pre .1) (s .pre .0) (omega arith) (omega arith)
+
+mul-next : tie.Need-mul-next
+mul-next c = omega (arith, c .before .before .before .before .before .before .before .before .before .before .before .before .before .before .before .before .before .before .before .before .before .pre .0)
+
+element-set-from-next : tie.Need-element-set-from-next
+element-set-from-next c = search (needs, c .before .before .before .before .before .before .before .before .before .before .before .before .before .before .before .before .before .before .before .before .before .pre .0)
+
+same-length : tie.Need-same-length
+same-length c = search needs
+
+same-length-2 : tie.Need-same-length-2
+same-length-2 c = search needs
+
+same-length-3 : tie.Need-same-length-3
+same-length-3 c = search needs
+
+returns-2 : tie.Need-returns-2
+unfolding freshOf
+returns-2 c =
+    let p = c .before .before .before .before .before .before .before .before in
+    let o = p .turn .last .1 .1 .1 .1 .1 .1 .1 .1 in
+    let a = c .before .before .before .before .before .before .before .before .before .before .before .before .before .before .before .before .before .before .before .before .before .before .args in
+    let i = a .index in
+    turn-taken (a .nanos) i (a .t1) (a .host) (a .lists .now) (a .queues .now) (a .memory .now) (listSize * i + listSize - listSize * i)
+    (capacity * i + capacity - capacity * i) (p .turn .result) (p .turn .last .0) (o .0) (o .1 .0) (o .1 .1 .0)
+    (sym (p .before .before .before .before .before .before .before .before .is-running .ensures) ∙ not-false _ (p .before .before .before .before .before .before .before .if1 .left)) (omega arith) (omega arith) (p .turn .ensures)
+
+pub turn-at-spec : {M : Type 1} → statement M
+turn-at-spec =
+    tie.close
+    (tie.spec
+    is-running-requires
+    returns
+    mul-list
+    add-list-end
+    mul-part
+    add-part-end
+    mul-s
+    element-copy-out-s
+    cast-turn
+    sub-turn
+    part-turn-start
+    part-turn-end
+    sub-turn-2
+    part-turn-start-2
+    part-turn-end-2
+    turn-requires
+    mul-next
+    element-set-from-next
+    same-length
+    same-length-2
+    same-length-3
+    returns-2)
