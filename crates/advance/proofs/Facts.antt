@@ -50,7 +50,7 @@ by-further P true y rest p q = q
 by-further P false y rest p q = p
 
 -- what each turn of a loop over numbers keeps, the loop keeps, wherever it ends
-each-keeps : {A : Type 0} (P : A → Type 0) (on : A → Bool) (f : ℕ → A → A) (count : ℕ) → ((i : ℕ) (x : A) → i < count → P x → P (f i x))
+pub each-keeps : {A : Type 0} (P : A → Type 0) (on : A → Bool) (f : ℕ → A → A) (count : ℕ) → ((i : ℕ) (x : A) → i < count → P x → P (f i x))
     → (n i : ℕ) (x : A) → i + n ≡ count → P x → P (eachOf on f n i x)
 unfolding eachOf
 each-keeps P on f count keep zero i x e p = p
