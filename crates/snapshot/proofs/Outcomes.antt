@@ -10,12 +10,14 @@ use Rattle.stream.specs.Box.{streams}
 use Rattle.host.specs.declared.Host.{Host}
 use Rattle.device.specs.declared.Hda.{Hda}
 use Rattle.device.specs.Machines.{checkOf}
+use Rattle.record.specs.Typed.{Sized}
+use Rattle.record.specs.Devices.{headOf}
+use Rattle.record.proofs.Puts.{put-then}
+use Rattle.record.proofs.Sizes.{length-head}
 use Rattle.snapshot.specs.declared.Saved.{Saved}
-use Rattle.snapshot.specs.States.{headOf, streamsOf, stateOf, sizeOf, Kept}
+use Rattle.snapshot.specs.States.{streamsOf, stateOf, sizeOf, Kept}
 use Rattle.snapshot.specs.Saves.{saveOut, savedOf, saveStep, saveOf}
-use Rattle.snapshot.proofs.Held.{Sized}
-use Rattle.snapshot.proofs.Puts.{put-then}
-use Rattle.snapshot.proofs.Sizes.{length-head, length-state}
+use Rattle.snapshot.proofs.Sizes.{length-state}
 
 -- the head put, and the streams behind it, are the state from the start of the space on
 pub state-put : (d : Hda) (lists l r s : List ℕ) → Sized d → Kept d lists → 680 ≤ length l

@@ -7,22 +7,19 @@ use native.Mathlib.Omega.{arith}
 use lib.ListN.{length, drop, length-append, length-drop}
 use lib.Seq.{length-take-le}
 use Rattle.word.specs.Parts.{partOf}
-use Rattle.codec.proofs.Bytes.{length-records}
 use Rattle.stream.specs.declared.Stream.{Stream}
 use Rattle.stream.specs.Streams as stream
 use Rattle.stream.specs.Box.{streams}
 use Rattle.device.specs.declared.Hda.{Hda}
 use Rattle.device.specs.Devices.{listSize, streamAt, freshOf}
-use Rattle.snapshot.specs.States.{headOf, streamOf, streamsOf, stateOf, sizesOf, sizeOf, Few, Kept}
-use Rattle.snapshot.proofs.Held.{Sized}
-
-pub length-head : (d : Hda) → Sized d → length (headOf d) ≡ 680
-unfolding headOf
-length-head d z = simp length-append (omega (arith, z .config, z .regs, length-records (d .link .codec) (z .codec)))
+use Rattle.record.specs.Devices.{headOf, numbersOf}
+use Rattle.record.specs.Typed.{Sized}
+use Rattle.record.proofs.Sizes.{length-head, length-numbers}
+use Rattle.snapshot.specs.States.{streamOf, streamsOf, stateOf, sizesOf, sizeOf, Few, Kept}
 
 pub length-stream : (s : Stream) (list : List ℕ) → 8 * s .pending ≤ length list → length (streamOf s list) ≡ 34 + 8 * s .pending
 unfolding streamOf
-length-stream s list h = omega (arith, length-take-le (8 * s .pending) list h)
+length-stream s list h = length-append (numbersOf s) _ ∙ omega (arith, length-numbers s, length-take-le (8 * s .pending) list h)
 
 -- stream `i`, then those after it
 pub streams-cons : (n i : ℕ) (d : Hda) (lists : List ℕ)

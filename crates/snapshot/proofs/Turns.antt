@@ -9,8 +9,8 @@ use Rattle.word.specs.Parts.{partOf}
 use Rattle.stream.specs.Box.{streams}
 use Rattle.device.specs.declared.Hda.{Hda}
 use Rattle.device.specs.Devices.{listSize, streamAt}
+use Rattle.record.proofs.Puts.{put-then, put-none}
 use Rattle.snapshot.specs.States.{streamOf, streamsOf, sizesOf, Kept}
-use Rattle.snapshot.proofs.Puts.{put-then, put-none}
 use Rattle.snapshot.proofs.Sizes.{length-stream, streams-cons, part-room}
 
 -- of `n` streams, stream `i` and those after it

@@ -6,9 +6,9 @@ use stream::Stream;
 ghost use mathlib.Core.Path.{_≡_};
 ghost use Prim.Native.Nat.{_+_, _*_, _≤_};
 ghost use lib.ListN.{length};
-ghost use Rattle.word.specs.Place.{putAt, storeAt};
+ghost use Rattle.word.specs.Place.{putAt};
 ghost use Rattle.stream.specs.Box.{streams};
-ghost use Rattle.snapshot.specs.States.{flag, linkOf, headOf, restOf, streamOf, streamsOf, sizeOf, Few, Kept};
+ghost use Rattle.snapshot.specs.States.{streamOf, streamsOf, sizeOf, Few, Kept};
 ghost use Rattle.snapshot.specs.Saves.{saveOut, savedOf, saveStep, saveOf};
 
 // What `save` answers beside the lent space: its number, the INTx level, and how many bytes it wrote.
@@ -18,83 +18,21 @@ pub struct Saved {
     pub count: u32,
 }
 
-// Bytes of a state before its streams.
-const HEAD: usize = 680;
-
-fn flag_byte(b: bool) -> u8
-    ensures { λ r. ⌜ r ≡ flag b ⌝ }
-{
-    if b { 1 } else { 0 }
-}
-
-// All of `bytes` at `at`.
-fn put(into: &mut [u8], at: usize, bytes: &[u8])
-    requires { ⌜ at + length (now bytes) ≤ length (now into) ⌝ }
-    ensures { λ _. ⌜ now (into .exit) ≡ putAt at (now (bytes .entry)) (now (into .entry)) ⌝ }
-{
-    let end = at + bytes.len();
-    bytes::copy(bytes, &mut into[at..end]);
-}
-
-// The two lowest bytes of a number: a state has no more of a descriptor's index and of the responses.
-fn put_low(into: &mut [u8], at: usize, v: u32)
-    requires { ⌜ at + 2 ≤ length (now into) ⌝ }
-    ensures { λ _. ⌜ now (into .exit) ≡ storeAt 2 at v (now (into .entry)) ⌝ }
-{
-    word::put16(into, at, (v % 65536) as u16);
-}
-
-// The head from the codec on.
-fn put_link(hda: Hda, into: &mut [u8])
-    requires { ⌜ 680 ≤ length (now into) ⌝ }
-    ensures { λ _. ⌜ now (into .exit) ≡ putAt 518 (linkOf hda) (now (into .entry)) ⌝ }
-{
-    let codec = hda.link.codec;
-    codec.store(into, 518);
-    word::put64(into, 662, hda.clock.ticks);
-    word::put64(into, 670, hda.clock.fraction);
-    put_low(into, 678, hda.link.responses);
-}
-
-fn put_head(hda: Hda, into: &mut [u8])
-    requires { ⌜ 680 ≤ length (now into) ⌝ }
-    ensures { λ _. ⌜ now (into .exit) ≡ putAt 0 (headOf hda) (now (into .entry)) ⌝ }
-{
-    let flags = [flag_byte(hda.microphone), flag_byte(hda.paused)];
-    put(into, 0, b"HDA1");
-    put(into, 4, &flags);
-    put(into, 6, &hda.config);
-    put(into, 262, &hda.regs);
-    put_link(hda, into);
-}
-
-// A stream from its consumed count on, with the bytes of its pending positions.
-fn put_rest(s: Stream, list: &[u8], into: &mut [u8], at: usize)
-    requires { ⌜ (8 * s .pending ≤ length (now list)) × (at + (20 + 8 * s .pending) ≤ length (now into)) ⌝ }
-    ensures { λ _. ⌜ now (into .exit) ≡ putAt at (restOf s (now (list .entry))) (now (into .entry)) ⌝ }
-{
-    let bytes = 8 * (s.pending as usize);
-    word::put64(into, at, s.consumed);
-    word::put64(into, at + 8, s.fraction);
-    word::put32(into, at + 16, s.pending);
-    put(into, at + 20, &list[..bytes]);
-}
-
+// A stream's numbers, with the bytes of its pending positions behind them.
 fn put_stream(s: Stream, list: &[u8], into: &mut [u8], at: usize)
     requires { ⌜ (8 * s .pending ≤ length (now list)) × (at + (34 + 8 * s .pending) ≤ length (now into)) ⌝ }
     ensures { λ _. ⌜ now (into .exit) ≡ putAt at (streamOf s (now (list .entry))) (now (into .entry)) ⌝ }
 {
-    put_low(into, at, s.descriptor);
-    word::put32(into, at + 2, s.offset);
-    word::put64(into, at + 6, s.submitted);
-    put_rest(s, list, into, at + 14);
+    let bytes = 8 * (s.pending as usize);
+    record::put_numbers(s, into, at);
+    record::put(into, at + record::NUMBERS, &list[..bytes]);
 }
 
 // Bytes of a stream: its numbers, and its positions.
 fn stream_size(s: Stream) -> usize
     ensures { λ r. ⌜ r ≡ 34 + 8 * s .pending ⌝ }
 {
-    34 + 8 * (s.pending as usize)
+    record::NUMBERS + 8 * (s.pending as usize)
 }
 
 // Bytes of the state.
@@ -103,7 +41,7 @@ fn size(hda: Hda) -> usize
     ensures { λ r. ⌜ r ≡ sizeOf hda ⌝ }
 {
     let count = STREAMS;
-    let mut bytes = HEAD;
+    let mut bytes = record::HEAD;
     let mut index = 0;
     while index < count {
         let s = hda.streams[index];
@@ -119,7 +57,7 @@ fn put_streams(hda: Hda, lists: &[u8], into: &mut [u8])
     ensures { λ _. ⌜ now (into .exit) ≡ putAt 680 (streamsOf streams 0 hda (now (lists .entry))) (now (into .entry)) ⌝ }
 {
     let count = STREAMS;
-    let mut at = HEAD;
+    let mut at = record::HEAD;
     let mut index = 0;
     while index < count {
         let s = hda.streams[index];
@@ -152,7 +90,7 @@ fn save_step(hda: Hda, lists: &[u8], into: &mut [u8]) -> Saved
     if into.len() < bytes {
         return answer(hda, 10, 0);
     }
-    put_head(hda, into);
+    record::put_head(hda, into);
     put_streams(hda, lists, into);
     answer(hda, 0, bytes as u32)
 }

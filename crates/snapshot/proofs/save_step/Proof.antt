@@ -1,8 +1,8 @@
 -- `save_step` is `saveStep`: the size is tested, then the head and the streams are put one behind the other.
 use native.Mathlib.Omega.{arith}
 use borrow.Author.Needs.{needs}
+use Rattle.record.proofs.Held.{held-sized}
 use Rattle.snapshot.specs.States.{sizeOf}
-use Rattle.snapshot.proofs.Held.{held-sized}
 use Rattle.snapshot.proofs.Sizes.{size-bound}
 use Rattle.snapshot.proofs.Outcomes.{state-put, short, done}
 use Rattle.snapshot.proofs.save_step.Statement.{statement}
