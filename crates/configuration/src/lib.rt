@@ -1,6 +1,7 @@
 // The device's configuration space (the Rust's `PciDevice`).
 ghost use mathlib.Core.Path.{_≡_};
-ghost use Prim.Native.Nat.{_<_};
+ghost use Prim.Native.Nat.{_≤_, _<_};
+ghost use lib.ListN.{length};
 ghost use Rattle.configuration.specs.Configuration.{freshOf, readOf, replaced, writeByteOf, writeOf};
 
 pub type Config = [u8; 256];
@@ -24,8 +25,9 @@ pub fn fresh() -> Config
     config
 }
 
-// A register of 4 bytes; 0 past the last.
-pub fn read(config: &Config, register: u64) -> u32
+// A register of 4 bytes, of a configuration that stands in a slice; 0 past the last.
+pub fn read_in(config: &[u8], register: u64) -> u32
+    requires { ⌜ 256 ≤ length (now config) ⌝ }
     ensures { λ r. ⌜ r ≡ readOf (now (config .entry)) register ⌝ }
 {
     if 64 <= register {
@@ -36,6 +38,12 @@ pub fn read(config: &Config, register: u64) -> u32
         return value & 0xffff_c000;
     }
     value
+}
+
+pub fn read(config: &Config, register: u64) -> u32
+    ensures { λ r. ⌜ r ≡ readOf (now (config .entry)) register ⌝ }
+{
+    read_in(config, register)
 }
 
 // Whether a write replaces the byte at `a`.

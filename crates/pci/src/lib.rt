@@ -3,9 +3,10 @@ use configuration::Config;
 use registers::Registers;
 ghost use mathlib.Core.Path.{_≡_};
 ghost use mathlib.Core.Bool.{cond};
-ghost use Prim.Native.Nat.{_+_, _^_, _<_};
+ghost use Prim.Native.Nat.{_+_, _^_, _≤_, _<_};
+ghost use lib.ListN.{length};
 ghost use Rattle.stream.specs.Box.{streams};
-ghost use Rattle.registers.specs.Places.{withBits, keepBits};
+ghost use Rattle.registers.specs.Places.{size, withBits, keepBits};
 ghost use Rattle.pci.specs.Interrupts.{controllerOf, streamOf, sourcesOf, statusOf, pendingBy, messages, levelOf, messageOf, updateOut, updateOf};
 
 // A message of the interrupt, or none.
@@ -28,7 +29,8 @@ const CONTROLLER: u32 = 0x4000_0000;
 const SOURCES: u32 = CONTROLLER + (1 << stream::STREAMS) - 1;
 
 // Whether a ring or a codec has an enabled status.
-fn controller(regs: &Registers) -> bool
+fn controller(regs: &[u8]) -> bool
+    requires { ⌜ size ≤ length (now regs) ⌝ }
     ensures { λ r. ⌜ r ≡ controllerOf (now (regs .entry)) ⌝ }
 {
     let corb = regs[registers::CORBSTS] & regs[registers::CORBCTL];
@@ -39,8 +41,8 @@ fn controller(regs: &Registers) -> bool
 }
 
 // Whether a stream has an enabled status.
-fn stream_status(regs: &Registers, index: usize) -> bool
-    requires { ⌜ index < streams ⌝ }
+fn stream_status(regs: &[u8], index: usize) -> bool
+    requires { ⌜ (index < streams) × (size ≤ length (now regs)) ⌝ }
     ensures { λ r. ⌜ r ≡ streamOf (now (regs .entry)) index ⌝ }
 {
     let base = registers::STREAM_BASE + registers::STREAM_SIZE * index;
@@ -59,7 +61,8 @@ fn with_bit(n: u32, bit: u32, on: bool) -> u32
 }
 
 // The sources' bits.
-fn sources(regs: &Registers) -> u32
+fn sources(regs: &[u8]) -> u32
+    requires { ⌜ size ≤ length (now regs) ⌝ }
     ensures { λ r. ⌜ (r ≡ sourcesOf (now (regs .entry))) × (r < 2 ^ 31) ⌝ }
 {
     let count = stream::STREAMS;
@@ -75,7 +78,8 @@ fn sources(regs: &Registers) -> u32
 }
 
 // Global interrupt status.
-fn status(regs: &Registers) -> u32
+fn status(regs: &[u8]) -> u32
+    requires { ⌜ size ≤ length (now regs) ⌝ }
     ensures { λ r. ⌜ r ≡ statusOf (now (regs .entry)) ⌝ }
 {
     let found = sources(regs);
@@ -93,21 +97,33 @@ fn pending(status: u32, control: u32) -> bool
 }
 
 // Whether the interrupt goes as a message.
-fn uses_messages(config: &Config) -> bool
+fn uses_messages(config: &[u8]) -> bool
+    requires { ⌜ 256 ≤ length (now config) ⌝ }
     ensures { λ r. ⌜ r ≡ messages (now (config .entry)) ⌝ }
 {
     config[0x62] & 1 != 0
 }
 
-// The INTx level.
+// The INTx level, of files that stand in slices.
+pub fn level_in(config: &[u8], regs: &[u8]) -> bool
+    requires { ⌜ (256 ≤ length (now config)) × (size ≤ length (now regs)) ⌝ }
+    ensures { λ r. ⌜ r ≡ levelOf (now (config .entry)) (now (regs .entry)) ⌝ }
+{
+    // Without a line to raise, the registers need not be asked.
+    if uses_messages(config) {
+        return false;
+    }
+    if config[0x05] & 4 != 0 {
+        return false;
+    }
+    let control = word::get32(regs, registers::INTCTL);
+    pending(status(regs), control)
+}
+
 pub fn level(config: &Config, regs: &Registers) -> bool
     ensures { λ r. ⌜ r ≡ levelOf (now (config .entry)) (now (regs .entry)) ⌝ }
 {
-    let control = word::get32(regs, registers::INTCTL);
-    let raised = pending(status(regs), control);
-    let message = uses_messages(config);
-    let disabled = config[0x05] & 4 != 0;
-    raised & (!message & !disabled)
+    level_in(config, regs)
 }
 
 // The interrupt status bit of the configuration.

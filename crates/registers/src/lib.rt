@@ -159,7 +159,8 @@ fn is_alias(address: u64) -> bool
             & ((k / 0x20 < STREAMS as u64) & ((4 <= k % 0x20) & (k % 0x20 < 8))))
 }
 
-fn read_byte(regs: &Registers, address: u64) -> u8
+fn read_byte(regs: &[u8], address: u64) -> u8
+    requires { ⌜ size ≤ length (now regs) ⌝ }
     ensures { λ r. ⌜ r ≡ readByteOf (now (regs .entry)) address ⌝ }
 {
     if address < SIZE as u64 {
@@ -172,7 +173,8 @@ fn read_byte(regs: &Registers, address: u64) -> u8
 }
 
 // Byte i from `offset` on.
-fn read_at(regs: &Registers, offset: u64, i: usize) -> u8
+fn read_at(regs: &[u8], offset: u64, i: usize) -> u8
+    requires { ⌜ size ≤ length (now regs) ⌝ }
     ensures { λ r. ⌜ r ≡ readByteOf (now (regs .entry)) (offset + i) ⌝ }
 {
     // An address past 64 bits reads 0.
@@ -182,8 +184,9 @@ fn read_at(regs: &Registers, offset: u64, i: usize) -> u8
     read_byte(regs, offset + (i as u64))
 }
 
-// Bytes from `offset` on, as many as `into` has.
-pub fn read(regs: &Registers, offset: u64, into: &mut [u8])
+// Bytes from `offset` on, as many as `into` has, of a register file that stands in a slice.
+pub fn read_in(regs: &[u8], offset: u64, into: &mut [u8])
+    requires { ⌜ size ≤ length (now regs) ⌝ }
     ensures { λ _. ⌜ now (into .exit) ≡ readOf (now (regs .entry)) offset (length (now (into .entry))) ⌝ }
 {
     let mut i = 0;
@@ -191,6 +194,12 @@ pub fn read(regs: &Registers, offset: u64, into: &mut [u8])
         into[i] = read_at(regs, offset, i);
         i += 1;
     }
+}
+
+pub fn read(regs: &Registers, offset: u64, into: &mut [u8])
+    ensures { λ _. ⌜ now (into .exit) ≡ readOf (now (regs .entry)) offset (length (now (into .entry))) ⌝ }
+{
+    read_in(regs, offset, into);
 }
 
 fn is_replaced(a: usize) -> bool

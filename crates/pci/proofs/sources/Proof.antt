@@ -19,7 +19,7 @@ with-bit-requires : tie.Need-with-bit-requires Inv-loop μ-loop
 with-bit-requires c κs = omega arith
 
 loop-holds : tie.Need-loop-holds Inv-loop μ-loop
-loop-holds c = scan-start (c .before .before .args .regs .now) (c .with-bit .result) (c .with-bit .ensures ∙ rw (c .before .controller .ensures))
+loop-holds c = scan-start (c .before .before .before .args .regs .now) (c .with-bit .result) (c .with-bit .ensures ∙ rw (c .before .controller .ensures))
 
 stream-status-requires : tie.Need-stream-status-requires Inv-loop μ-loop
 stream-status-requires c κs = omega arith
@@ -43,13 +43,13 @@ loop-less c = omega arith
 loop-again : tie.Need-loop-again Inv-loop μ-loop
 loop-again c =
     let l = c .before .before .before in
-    scan-turn (l .before .before .before .args .regs .now) _ (l .loop .found) (l .loop .bit) (l .loop .index) (l .loop .inv) (c .with-bit2 .result) (omega arith)
+    scan-turn (l .before .before .before .before .args .regs .now) _ (l .loop .found) (l .loop .bit) (l .loop .index) (l .loop .inv) (c .with-bit2 .result) (omega arith)
     (c .with-bit2 .ensures ∙ rw (c .before .stream-status .ensures))
 
 returns : tie.Need-returns Inv-loop μ-loop
 returns c =
     let l = c .before in (
-      scan-end (l .before .before .before .args .regs .now) _ (l .loop .found) (l .loop .bit) (l .loop .index) (l .loop .inv) (c .loop-test .left),
+      scan-end (l .before .before .before .before .args .regs .now) _ (l .loop .found) (l .loop .bit) (l .loop .index) (l .loop .inv) (c .loop-test .left),
       omega (arith, bit-bound (l .loop .index) (l .loop .bit) (omega arith) (l .loop .inv .weight)),
     )
 

@@ -29,7 +29,7 @@ returns : tie.Need-returns
 unfolding updateOf pendingOf
 returns c =
     let m = c .before .before .before .before in
-    let p = m .before .before .before .before in
+    let p = m .before .before .before .before .before in
     rw (
       c .put32-in .ensures,
       c .before .before .show .ensures,
@@ -37,7 +37,7 @@ returns c =
       m .before .before .uses-messages .ensures,
       p .pending .ensures,
       p .before .status .ensures,
-      p .before .before .before .get32 .ensures,
+      p .before .before .before .before .get32 .ensures,
     )
 
 pub update-irq-spec : {M : Type 1} → statement M

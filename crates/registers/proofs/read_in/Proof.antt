@@ -1,4 +1,4 @@
--- `read` meets its contract. The invariant: `i` bytes are read. Assumes nothing.
+-- `read_in` meets its contract. The invariant: `i` bytes are read. Assumes nothing.
 use Prim.Native.Nat.{_-_, _≤_}
 use mathlib.Core.Path.{_≡_, refl, sym, ap, _∙_}
 use native.Mathlib.Omega.{arith}
@@ -7,8 +7,8 @@ use lib.ListN.{length, take, length-set}
 use lib.Seq.{take-all}
 use Rattle.registers.specs.Reads.{readOf}
 use Rattle.registers.proofs.Reading.{read-turn}
-use Rattle.registers.proofs.read.Statement.{statement}
-use Rattle.registers.proofs.read.Tie as tie
+use Rattle.registers.proofs.read_in.Statement.{statement}
+use Rattle.registers.proofs.read_in.Tie as tie
 
 abbrev Inv-loop : tie.InvT-loop
 Inv-loop regs offset into₀ i₀ into i =
@@ -45,12 +45,12 @@ same-length c = omega arith
 returns : tie.Need-returns Inv-loop μ-loop
 returns c =
     let l = c .before .loop in
-    let a = c .before .before .before .args in
+    let a = c .before .before .before .before .args in
     let all : l .i ≡ length (a .into .now) = omega arith in
     sym (take-all (l .i) (l .into) (omega arith)) ∙ l .inv .2 ∙ ap (readOf (a .regs .now) (a .offset)) all
 
-pub read-spec : {M : Type 1} → statement M
-read-spec =
+pub read-in-spec : {M : Type 1} → statement M
+read-in-spec =
     tie.close
     (tie.spec
     Inv-loop
