@@ -1,9 +1,16 @@
-// A guest's reads of registers and configuration (the Rust's `BusDevice::read` and `PciDevice`'s reads). Each checks the machine first (document 01, "Numbers returned"),
-// leaves the device as it is, and answers its number and the INTx level.
-use device::Hda;
+// A guest's reads of registers and configuration (the Rust's `BusDevice::read` and `PciDevice`'s reads), where the device stands in its record: it is not taken out. Each
+// checks the machine first (document 01, "Numbers returned"), leaves the device as it is, and answers its number and the INTx level.
 use host::Host;
+use stream::STREAMS;
+use stream::Stream;
 ghost use mathlib.Core.Path.{_≡_};
+ghost use Prim.Native.Nat.{_*_, _≤_};
 ghost use lib.ListN.{length, replicate};
+ghost use Rattle.stream.specs.Box.{streams};
+ghost use Rattle.device.specs.Devices.{listSize, streamsValid, validOf};
+ghost use Rattle.device.specs.Machines.{checkOf};
+ghost use Rattle.record.specs.Layout.{deviceSize};
+ghost use Rattle.record.specs.Loads.{deviceAt};
 ghost use Rattle.read.specs.Reads.{shownOf, statusOf, readOf, barReadOf, configReadOf};
 
 // What a register read answers beside the buffer.
@@ -19,34 +26,85 @@ pub struct Value {
     pub value: u32,
 }
 
-// The number and the INTx level of a call that leaves the device as it is.
-fn status_of(hda: Hda, number: u32) -> Status
-    ensures { λ r. ⌜ r ≡ statusOf number hda ⌝ }
+// Whether every stream in the record, and its list, keep document 01's conditions 6, 7 and 8.
+fn streams_valid(device: &[u8], lists: &[u8]) -> bool
+    requires { ⌜ (length (now device) ≡ deviceSize) × (listSize * streams ≤ length (now lists)) ⌝ }
+    ensures { λ r. ⌜ r ≡ streamsValid streams 0 (deviceAt (now (device .entry))) (now (lists .entry)) ⌝ }
 {
-    let config = hda.config;
+    let count = STREAMS;
+    let mut index = 0;
+    while index < count {
+        let s = record::load_stream(device, record::HEAD + record::NUMBERS * index);
+        let a = Stream::LIST * index;
+        let e = a + Stream::LIST;
+        if !s.valid(&lists[a..e]) {
+            return false;
+        }
+        index += 1;
+    }
+    true
+}
+
+// What a device handed in must meet, else number 9.
+fn valid(device: &[u8], lists: &[u8]) -> bool
+    requires { ⌜ (length (now device) ≡ deviceSize) × (listSize * streams ≤ length (now lists)) ⌝ }
+    ensures { λ r. ⌜ r ≡ validOf (deviceAt (now (device .entry))) (now (lists .entry)) ⌝ }
+{
+    if word::get64(device, 670) >= 1_000_000_000 {
+        return false;
+    }
+    if word::get16(device, 678) > 255 {
+        return false;
+    }
+    if word::get32(device, 6) != 0x293e_8086 {
+        return false;
+    }
+    streams_valid(device, lists)
+}
+
+// 10 for short lent space, 9 for a device or host end that breaks a condition, else 0.
+fn check(device: &[u8], host: Host, lists: &[u8], queues: usize) -> u32
+    requires { ⌜ length (now device) ≡ deviceSize ⌝ }
+    ensures { λ r. ⌜ r ≡ checkOf (deviceAt (now (device .entry))) host (now (lists .entry)) queues ⌝ }
+{
+    if device::is_short(lists.len(), queues) {
+        return 10;
+    }
+    if !valid(device, lists) {
+        return 9;
+    }
+    if host.valid() { 0 } else { 9 }
+}
+
+// The number and the INTx level of a call that leaves the device as it is.
+fn status_of(device: &[u8], number: u32) -> Status
+    requires { ⌜ length (now device) ≡ deviceSize ⌝ }
+    ensures { λ r. ⌜ r ≡ statusOf number (deviceAt (now (device .entry))) ⌝ }
+{
     Status {
         number,
-        level: pci::level(&config, &hda.regs),
+        level: pci::level_in(&device[6..262], &device[262..518]),
     }
 }
 
 // Registers from `offset` on into the buffer.
 pub fn read(
-    hda: Hda,
+    device: &[u8],
     host: Host,
     lists: &[u8],
     queues: &[u8],
     offset: u64,
     into: &mut [u8],
 ) -> Status
-    ensures { λ r. ⌜ shownOf r (now (into .exit)) ≡ readOf offset hda host (now (lists .entry)) (length (now (queues .entry))) (now (into .entry)) ⌝ }
+    requires { ⌜ length (now device) ≡ deviceSize ⌝ }
+    ensures { λ r. ⌜ shownOf r (now (into .exit)) ≡ readOf offset (deviceAt (now (device .entry))) host (now (lists .entry)) (length (now (queues .entry))) (now (into .entry)) ⌝ }
 {
-    let number = hda.check(host, lists, queues.len());
+    let number = check(device, host, lists, queues.len());
     if number != 0 {
-        return status_of(hda, number);
+        return status_of(device, number);
     }
-    registers::read(&hda.regs, offset, into);
-    status_of(hda, number)
+    registers::read_in(&device[262..518], offset, into);
+    status_of(device, number)
 }
 
 // Zeros in the place of a buffer's bytes.
@@ -62,7 +120,7 @@ fn clear(into: &mut [u8])
 
 // The registers are base address 0; another reads 0.
 pub fn bar_read(
-    hda: Hda,
+    device: &[u8],
     host: Host,
     lists: &[u8],
     queues: &[u8],
@@ -70,25 +128,27 @@ pub fn bar_read(
     offset: u64,
     into: &mut [u8],
 ) -> Status
-    ensures { λ r. ⌜ shownOf r (now (into .exit)) ≡ barReadOf bar offset hda host (now (lists .entry)) (length (now (queues .entry))) (now (into .entry)) ⌝ }
+    requires { ⌜ length (now device) ≡ deviceSize ⌝ }
+    ensures { λ r. ⌜ shownOf r (now (into .exit)) ≡ barReadOf bar offset (deviceAt (now (device .entry))) host (now (lists .entry)) (length (now (queues .entry))) (now (into .entry)) ⌝ }
 {
     if bar == 0 {
-        return read(hda, host, lists, queues, offset, into);
+        return read(device, host, lists, queues, offset, into);
     }
-    let number = hda.check(host, lists, queues.len());
+    let number = check(device, host, lists, queues.len());
     if number != 0 {
-        return status_of(hda, number);
+        return status_of(device, number);
     }
     clear(into);
-    status_of(hda, number)
+    status_of(device, number)
 }
 
 // A configuration register.
-pub fn config_read(hda: Hda, host: Host, lists: &[u8], queues: &[u8], register: u64) -> Value
-    ensures { λ r. ⌜ r ≡ configReadOf register hda host (now (lists .entry)) (length (now (queues .entry))) ⌝ }
+pub fn config_read(device: &[u8], host: Host, lists: &[u8], queues: &[u8], register: u64) -> Value
+    requires { ⌜ length (now device) ≡ deviceSize ⌝ }
+    ensures { λ r. ⌜ r ≡ configReadOf register (deviceAt (now (device .entry))) host (now (lists .entry)) (length (now (queues .entry))) ⌝ }
 {
-    let number = hda.check(host, lists, queues.len());
-    let s = status_of(hda, number);
+    let number = check(device, host, lists, queues.len());
+    let s = status_of(device, number);
     if number != 0 {
         return Value {
             number: s.number,
@@ -96,7 +156,7 @@ pub fn config_read(hda: Hda, host: Host, lists: &[u8], queues: &[u8], register: 
             value: 0,
         };
     }
-    let value = configuration::read(&hda.config, register);
+    let value = configuration::read_in(&device[6..262], register);
     Value {
         number: s.number,
         level: s.level,

@@ -1,6 +1,7 @@
 -- `bar_read` meets its contract: the registers' read, or zeros behind the check. Assumes nothing.
 use borrow.Author.Needs.{needs}
 use lib.ListN.{length, replicate}
+use Rattle.record.specs.Loads.{deviceAt}
 use Rattle.read.specs.Reads.{shownOf}
 use Rattle.read.proofs.Reading.{hidden, shown, bar-registers, bar-zeros}
 use Rattle.read.proofs.bar_read.Statement.{statement}
@@ -15,8 +16,8 @@ same-length c = search needs
 returns : tie.Need-returns
 returns c =
     let r = c .before .before .read in
-    let a = c .before .before .before .before .before .before .before .before .args in
-    bar-registers (a .bar) (a .offset) (a .hda) (a .host) (a .lists .now) (length (a .queues .now)) (a .into .now) (shownOf (r .result) (r .last .1 .1 .1 .1 .1 .0)) (c .before .before .before .before .if1 .taken) (r .ensures)
+    let a = c .before .before .before .before .before .before .before .before .before .args in
+    bar-registers (a .bar) (a .offset) (deviceAt (a .device .now)) (a .host) (a .lists .now) (length (a .queues .now)) (a .into .now) (shownOf (r .result) (r .last .1 .1 .1 .1 .1 .0)) (c .before .before .before .before .if1 .taken) (r .ensures)
 
 check-requires : tie.Need-check-requires
 check-requires c κs = search needs
@@ -28,9 +29,9 @@ returns-2 : tie.Need-returns-2
 returns-2 c =
     let s = c .status-of in
     let k = c .before .before .check in
-    let a = c .before .before .before .before .before .before .before .args in
-    bar-zeros (a .bar) (a .offset) (a .hda) (a .host) (a .lists .now) (length (a .queues .now)) (a .into .now) (shownOf (s .result) (a .into .now)) (c .before .before .before .if1 .left)
-    (hidden (a .hda) (a .host) (a .lists .now) (length (a .queues .now)) (k .result) (k .ensures) (s .result) (s .ensures) (a .into .now) (replicate (length (a .into .now)) 0) (c .before .if2 .taken))
+    let a = c .before .before .before .before .before .before .before .before .args in
+    bar-zeros (a .bar) (a .offset) (deviceAt (a .device .now)) (a .host) (a .lists .now) (length (a .queues .now)) (a .into .now) (shownOf (s .result) (a .into .now)) (c .before .before .before .if1 .left)
+    (hidden (deviceAt (a .device .now)) (a .host) (a .lists .now) (length (a .queues .now)) (k .result) (k .ensures) (s .result) (s .ensures) (a .into .now) (replicate (length (a .into .now)) 0) (c .before .if2 .taken))
 
 clear-requires : tie.Need-clear-requires
 clear-requires c κs = search needs
@@ -46,9 +47,9 @@ returns-3 c =
     let s = c .status-of2 in
     let z = c .before .before .before .clear in
     let k = c .before .before .before .before .before .before .check in
-    let a = c .before .before .before .before .before .before .before .before .before .before .before .args in
-    bar-zeros (a .bar) (a .offset) (a .hda) (a .host) (a .lists .now) (length (a .queues .now)) (a .into .now) (shownOf (s .result) (z .last .0)) (c .before .before .before .before .before .before .before .if1 .left)
-    (shown (a .hda) (a .host) (a .lists .now) (length (a .queues .now)) (k .result) (k .ensures) (s .result) (s .ensures) (a .into .now) (replicate (length (a .into .now)) 0) (z .last .0) (c .before .before .before .before .before .if2 .left) (z .ensures))
+    let a = c .before .before .before .before .before .before .before .before .before .before .before .before .args in
+    bar-zeros (a .bar) (a .offset) (deviceAt (a .device .now)) (a .host) (a .lists .now) (length (a .queues .now)) (a .into .now) (shownOf (s .result) (z .last .0)) (c .before .before .before .before .before .before .before .if1 .left)
+    (shown (deviceAt (a .device .now)) (a .host) (a .lists .now) (length (a .queues .now)) (k .result) (k .ensures) (s .result) (s .ensures) (a .into .now) (replicate (length (a .into .now)) 0) (z .last .0) (c .before .before .before .before .before .if2 .left) (z .ensures))
 
 pub bar-read-spec : {M : Type 1} → statement M
 bar-read-spec =

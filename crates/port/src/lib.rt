@@ -1,0 +1,222 @@
+// The device's C functions (include/hda.h, docs/LAYOUT.md). A slice is a pointer and a length; any bytes of any lengths may come in any order. Each function is the call of
+// crates port_device, port_reads and port_host by its C name, with the same contract; a flag is any number, and all but 0 is true.
+ghost use mathlib.Core.Path.{_≡_};
+ghost use mathlib.Core.Bool.{not};
+ghost use lib.ListN.{length};
+ghost use lib.Dec.{eqb};
+ghost use Rattle.driver.specs.Calls.{playbackFailsOf, captureFailsOf, downstreamOf};
+ghost use Rattle.advance.specs.Advance.{advanceOf};
+ghost use Rattle.write.specs.Writes.{writeOf};
+ghost use Rattle.hda.specs.Calls.{barWriteOf, configWriteOf, pinOf};
+ghost use Rattle.port_device.specs.Calls.{lent, returned, made, behind, newOf, pausedOf};
+ghost use Rattle.port_reads.specs.Reads.{shown, readOf, barReadOf, configReadOf, saveOf};
+ghost use Rattle.port_host.specs.Calls.{kept, fedOut, pulledOut, feedOf, pullOf, setting};
+ghost use Rattle.port_host.specs.Calls as hosts;
+
+// A new device into its record.
+#[no_mangle]
+pub extern "C" fn hda_new(device: &mut [u8], lists: &[u8], queues: &[u8], microphone: u32) -> u64
+    ensures { λ r. ⌜ made r (now (device .exit)) ≡ newOf (not (eqb microphone 0)) (now (device .entry)) (length (now (lists .entry))) (length (now (queues .entry))) ⌝ }
+{
+    port_device::new(device, lists, queues, microphone != 0)
+}
+
+// A new host end into its record.
+#[no_mangle]
+pub extern "C" fn hda_host_new(host: &mut [u8], queues: &[u8]) -> u64
+    ensures { λ r. ⌜ kept r (now (host .exit)) ≡ hosts.newOf (now (host .entry)) (length (now (queues .entry))) ⌝ }
+{
+    port_host::new(host, queues)
+}
+
+// `nanos` nanoseconds pass.
+#[no_mangle]
+pub extern "C" fn hda_advance(
+    device: &mut [u8],
+    host: &mut [u8],
+    lists: &mut [u8],
+    queues: &mut [u8],
+    memory: &mut [u8],
+    nanos: u64,
+) -> u64
+    ensures { λ r. ⌜ returned r (lent (now (device .exit)) (now (host .exit)) (now (lists .exit)) (now (queues .exit)) (now (memory .exit))) ≡ behind (advanceOf nanos) (lent (now (device .entry)) (now (host .entry)) (now (lists .entry)) (now (queues .entry)) (now (memory .entry))) ⌝ }
+{
+    port_device::advance(device, host, lists, queues, memory, nanos)
+}
+
+// Registers from `offset` on into the buffer.
+#[no_mangle]
+pub extern "C" fn hda_read(
+    device: &[u8],
+    host: &[u8],
+    lists: &[u8],
+    queues: &[u8],
+    offset: u64,
+    into: &mut [u8],
+) -> u64
+    ensures { λ r. ⌜ shown r (now (into .exit)) ≡ readOf offset (now (device .entry)) (now (host .entry)) (now (lists .entry)) (length (now (queues .entry))) (now (into .entry)) ⌝ }
+{
+    port_reads::read(device, host, lists, queues, offset, into)
+}
+
+// A guest's write to the registers from `offset` on.
+#[no_mangle]
+pub extern "C" fn hda_write(
+    device: &mut [u8],
+    host: &mut [u8],
+    lists: &[u8],
+    queues: &[u8],
+    memory: &mut [u8],
+    offset: u64,
+    bytes: &[u8],
+) -> u64
+    ensures { λ r. ⌜ returned r (lent (now (device .exit)) (now (host .exit)) (now (lists .entry)) (now (queues .entry)) (now (memory .exit))) ≡ behind (writeOf offset (now (bytes .entry))) (lent (now (device .entry)) (now (host .entry)) (now (lists .entry)) (now (queues .entry)) (now (memory .entry))) ⌝ }
+{
+    port_device::write(device, host, lists, queues, memory, offset, bytes)
+}
+
+// The same at any base address: 0 is the registers; another reads 0 and drops writes.
+#[no_mangle]
+pub extern "C" fn hda_bar_read(
+    device: &[u8],
+    host: &[u8],
+    lists: &[u8],
+    queues: &[u8],
+    bar: u32,
+    offset: u64,
+    into: &mut [u8],
+) -> u64
+    ensures { λ r. ⌜ shown r (now (into .exit)) ≡ barReadOf bar offset (now (device .entry)) (now (host .entry)) (now (lists .entry)) (length (now (queues .entry))) (now (into .entry)) ⌝ }
+{
+    port_reads::bar_read(device, host, lists, queues, bar, offset, into)
+}
+
+#[no_mangle]
+pub extern "C" fn hda_bar_write(
+    device: &mut [u8],
+    host: &mut [u8],
+    lists: &[u8],
+    queues: &[u8],
+    memory: &mut [u8],
+    bar: u32,
+    offset: u64,
+    bytes: &[u8],
+) -> u64
+    ensures { λ r. ⌜ returned r (lent (now (device .exit)) (now (host .exit)) (now (lists .entry)) (now (queues .entry)) (now (memory .exit))) ≡ behind (barWriteOf bar offset (now (bytes .entry))) (lent (now (device .entry)) (now (host .entry)) (now (lists .entry)) (now (queues .entry)) (now (memory .entry))) ⌝ }
+{
+    port_device::bar_write(device, host, lists, queues, memory, bar, offset, bytes)
+}
+
+// A configuration register, as the value returned.
+#[no_mangle]
+pub extern "C" fn hda_config_read(
+    device: &[u8],
+    host: &[u8],
+    lists: &[u8],
+    queues: &[u8],
+    register: u64,
+) -> u64
+    ensures { λ r. ⌜ r ≡ configReadOf register (now (device .entry)) (now (host .entry)) (now (lists .entry)) (length (now (queues .entry))) ⌝ }
+{
+    port_reads::config_read(device, host, lists, queues, register)
+}
+
+// A write to the configuration, from byte `offset` of a register on.
+#[no_mangle]
+pub extern "C" fn hda_config_write(
+    device: &mut [u8],
+    host: &[u8],
+    lists: &[u8],
+    queues: &[u8],
+    memory: &mut [u8],
+    register: u64,
+    offset: u64,
+    bytes: &[u8],
+) -> u64
+    ensures { λ r. ⌜ returned r (lent (now (device .exit)) (now (host .entry)) (now (lists .entry)) (now (queues .entry)) (now (memory .exit))) ≡ behind (configWriteOf register offset (now (bytes .entry))) (lent (now (device .entry)) (now (host .entry)) (now (lists .entry)) (now (queues .entry)) (now (memory .entry))) ⌝ }
+{
+    port_device::config_write(device, host, lists, queues, memory, register, offset, bytes)
+}
+
+// The presence of something at a pin has changed.
+#[no_mangle]
+pub extern "C" fn hda_pin_presence_changed(
+    device: &mut [u8],
+    host: &[u8],
+    lists: &[u8],
+    queues: &[u8],
+    memory: &mut [u8],
+    node: u32,
+) -> u64
+    ensures { λ r. ⌜ returned r (lent (now (device .exit)) (now (host .entry)) (now (lists .entry)) (now (queues .entry)) (now (memory .exit))) ≡ behind (pinOf node) (lent (now (device .entry)) (now (host .entry)) (now (lists .entry)) (now (queues .entry)) (now (memory .entry))) ⌝ }
+{
+    port_device::pin_presence_changed(device, host, lists, queues, memory, node)
+}
+
+// DMA, positions and the wall clock stand still while paused.
+#[no_mangle]
+pub extern "C" fn hda_set_paused(
+    device: &mut [u8],
+    host: &[u8],
+    lists: &[u8],
+    queues: &[u8],
+    paused: u32,
+) -> u64
+    ensures { λ r. ⌜ made r (now (device .exit)) ≡ pausedOf (not (eqb paused 0)) (now (device .entry)) (now (host .entry)) (now (lists .entry)) (length (now (queues .entry))) ⌝ }
+{
+    port_device::set_paused(device, host, lists, queues, paused != 0)
+}
+
+// The saved state from the start of the lent space on; the value returned is its length.
+#[no_mangle]
+pub extern "C" fn hda_save(
+    device: &[u8],
+    host: &[u8],
+    lists: &[u8],
+    queues: &[u8],
+    into: &mut [u8],
+) -> u64
+    ensures { λ r. ⌜ shown r (now (into .exit)) ≡ saveOf (now (device .entry)) (now (host .entry)) (now (lists .entry)) (length (now (queues .entry))) (now (into .entry)) ⌝ }
+{
+    port_reads::save(device, host, lists, queues, into)
+}
+
+// Frames into the queue of the capture stream; the value returned is their count.
+#[no_mangle]
+pub extern "C" fn hda_feed(host: &mut [u8], queues: &mut [u8], frames: &[u8]) -> u64
+    ensures { λ r. ⌜ fedOut r (now (host .exit)) (now (queues .exit)) ≡ feedOf (now (host .entry)) (now (queues .entry)) (now (frames .entry)) ⌝ }
+{
+    port_host::feed(host, queues, frames)
+}
+
+// Frames out of the queue of the playback stream; the value returned is their count.
+#[no_mangle]
+pub extern "C" fn hda_pull(host: &mut [u8], queues: &mut [u8], into: &mut [u8]) -> u64
+    ensures { λ r. ⌜ pulledOut r (now (host .exit)) (now (queues .exit)) (now (into .exit)) ≡ pullOf (now (host .entry)) (now (queues .entry)) (now (into .entry)) ⌝ }
+{
+    port_host::pull(host, queues, into)
+}
+
+// Whether openings for playback fail.
+#[no_mangle]
+pub extern "C" fn hda_set_playback_fails(host: &mut [u8], queues: &[u8], fails: u32) -> u64
+    ensures { λ r. ⌜ kept r (now (host .exit)) ≡ setting (λ h n. playbackFailsOf h n (not (eqb fails 0))) (now (host .entry)) (length (now (queues .entry))) ⌝ }
+{
+    port_host::set_playback_fails(host, queues, fails != 0)
+}
+
+// Whether openings for capture fail.
+#[no_mangle]
+pub extern "C" fn hda_set_capture_fails(host: &mut [u8], queues: &[u8], fails: u32) -> u64
+    ensures { λ r. ⌜ kept r (now (host .exit)) ≡ setting (λ h n. captureFailsOf h n (not (eqb fails 0))) (now (host .entry)) (length (now (queues .entry))) ⌝ }
+{
+    port_host::set_capture_fails(host, queues, fails != 0)
+}
+
+// Bytes that the host holds beyond the queue.
+#[no_mangle]
+pub extern "C" fn hda_set_downstream(host: &mut [u8], queues: &[u8], bytes: u32) -> u64
+    ensures { λ r. ⌜ kept r (now (host .exit)) ≡ setting (λ h n. downstreamOf h n bytes) (now (host .entry)) (length (now (queues .entry))) ⌝ }
+{
+    port_host::set_downstream(host, queues, bytes)
+}

@@ -1,0 +1,77 @@
+-- The ways out of a call on bytes: unreadable, and done on what the records hold. Assumes nothing.
+use Prim.Native.Nat.{ℕ}
+use mathlib.Core.Path.{_≡_, ap, _∙_}
+use mathlib.Core.Bool.{Bool, true, false}
+use mathlib.Core.Logic.{_≢_}
+use mathlib.Core.List.{List}
+use borrow.Author.Tests.{eq-eqb, ne-eqb}
+use lib.ListN.{length}
+use Rattle.word.specs.Value.{Bytes}
+use Rattle.host.specs.declared.Host.{Host}
+use Rattle.device.specs.declared.Hda.{Hda}
+use Rattle.device.specs.declared.Answer.{Answer}
+use Rattle.device.specs.Machines.{Machine, Done, machine}
+use Rattle.hda.specs.declared.Made as hda-made
+use Rattle.hda.specs.Calls as hda
+use Rattle.record.specs.Layout.{deviceSize}
+use Rattle.record.specs.Devices.{deviceBytes}
+use Rattle.record.specs.Loads.{deviceAt}
+use Rattle.host_record.specs.Hosts.{hostBytes, hostAt}
+use Rattle.host_record.proofs.Theorems.{host-loaded}
+use Rattle.reply.specs.Replies.{replyOf, unreadableOf, isMachine}
+use Rattle.reply.proofs.Records.{machine-host}
+use Rattle.port_device.specs.Calls.{Lent, lent, returned, machineAt, behind, Made, made, madeOf, Stored, storedOut, storedOf, newOf, pausedOf}
+
+module _ (call : Machine → Done) (x : Lent) where
+  pub unreadable-outcome : isMachine (x .device) (x .host) ≡ false → (r : ℕ) → r ≡ unreadableOf (length (x .lists)) (length (x .queues))
+      → returned r x ≡ behind call x
+  unfolding behind
+  unreadable-outcome t r e = rw (t, e)
+
+  -- `z` is all that the call left of the machine that was loaded
+  module _ (t : isMachine (x .device) (x .host) ≡ true) (d : Hda) (h : Host) (ed : d ≡ deviceAt (x .device)) (eh : h ≡ hostAt (x .host)) (z : Done)
+      (ez : z ≡ call (machine d h (x .lists) (x .queues) (x .memory))) where
+    pub done-outcome : (r : ℕ) (device host : List ℕ) → storedOut r device host ≡ storedOf (z .answer)
+        → returned r (lent device host (z .lists) (z .queues) (z .memory)) ≡ behind call x
+    unfolding behind
+    done-outcome r device host e =
+        let called : z ≡ call (machineAt x) = ez ∙ rw (ed, eh) in
+        rw (t, ← called) (ap (λ (s : Stored). returned (s .reply) (lent (s .device) (s .host) (z .lists) (z .queues) (z .memory))) e)
+
+    -- a call that leaves the host end need not store it: the bytes lent are its record
+    pub kept-outcome : ((y : Machine) → call y .answer .host ≡ y .host) → Bytes (x .host) → (r : ℕ) (device : List ℕ) → made r device ≡ madeOf (z .answer)
+        → returned r (lent device (x .host) (z .lists) (z .queues) (z .memory)) ≡ behind call x
+    kept-outcome keeps bytes r device e =
+        let stays : z .answer .host ≡ h = ap (λ (y : Done). y .answer .host) ez ∙ keeps (machine d h (x .lists) (x .queues) (x .memory)) in
+        let same : hostBytes (z .answer .host) ≡ x .host = ap hostBytes (stays ∙ eh) ∙ host-loaded (x .host) (machine-host (x .device) (x .host) t) bytes in
+        done-outcome r device (x .host) (rw same (ap (λ (s : Made). storedOut (s .reply) (s .device) (x .host)) e))
+
+-- a new device, `m` being what the call answers: refused, no room for a record, and made
+module _ (microphone : Bool) (device : List ℕ) (lists queues : ℕ) (m : hda-made.Made) (e : m ≡ hda.newOf microphone lists queues) where
+  pub new-short : m .number ≢ 0 → (r : ℕ) → r ≡ replyOf (m .number) false false 0 → made r device ≡ newOf microphone device lists queues
+  unfolding newOf
+  new-short n r er = rw (er, ← e, ne-eqb (m .number) 0 n)
+
+  module _ (z : m .number ≡ 0) where
+    pub new-unfit : length device ≢ deviceSize → (r : ℕ) → r ≡ replyOf 9 false false 0 → made r device ≡ newOf microphone device lists queues
+    unfolding newOf
+    new-unfit n r er = rw (er, ← e, eq-eqb (m .number) 0 z, ne-eqb (length device) deviceSize n)
+
+    pub new-done : length device ≡ deviceSize → (r : ℕ) (b : List ℕ) → r ≡ replyOf 0 false false 0 → b ≡ deviceBytes (m .hda)
+        → made r b ≡ newOf microphone device lists queues
+    unfolding newOf
+    new-done s r b er eb = rw (er, eb, ← e, eq-eqb (m .number) 0 z, eq-eqb (length device) deviceSize s)
+
+-- the pause, where no host end is stored
+module _ (paused : Bool) (device host lists : List ℕ) (queues : ℕ) where
+  pub paused-unreadable : isMachine device host ≡ false → (r : ℕ) → r ≡ unreadableOf (length lists) queues
+      → made r device ≡ pausedOf paused device host lists queues
+  unfolding pausedOf
+  paused-unreadable t r e = rw (t, e)
+
+  pub paused-done : isMachine device host ≡ true → (d : Hda) (h : Host) → d ≡ deviceAt device → h ≡ hostAt host → (a : Answer)
+      → a ≡ hda.pauseOf paused d h lists queues → (r : ℕ) (b : List ℕ) → made r b ≡ madeOf a → made r b ≡ pausedOf paused device host lists queues
+  unfolding pausedOf
+  paused-done t d h ed eh a ea r b e =
+      let called : a ≡ hda.pauseOf paused (deviceAt device) (hostAt host) lists queues = ea ∙ rw (ed, eh) in
+      rw (t, ← called) e

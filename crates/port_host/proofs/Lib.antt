@@ -1,0 +1,2 @@
+-- The laws of specs/: the ways out of each call.
+pub mod Outcomes
