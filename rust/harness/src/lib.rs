@@ -7,8 +7,9 @@ pub mod generate;
 pub mod host;
 pub mod lockstep;
 pub mod ops;
-pub mod random;
 pub mod shrink;
 pub mod side;
 pub mod state;
 pub mod trace;
+
+pub use random;

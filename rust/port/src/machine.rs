@@ -1,0 +1,224 @@
+//! A device with its host end, and all that they are lent besides guest memory.
+use crate::layout::{DEVICE, HOST, LIST, LISTS, MAX_STATE, QUEUE, QUEUES, device, get, host, stream};
+use crate::{Answer, Reply, calls, number};
+
+/// The records and lent spaces as bytes (docs/LAYOUT.md).
+#[derive(Clone, PartialEq, Eq)]
+pub struct Bytes {
+    pub device: [u8; DEVICE],
+    pub host: [u8; HOST],
+    pub lists: Box<[u8; LISTS]>,
+    pub queues: Box<[u8; QUEUES]>,
+}
+
+/// A device, its host end, its lists and its queues. Guest memory is lent to each call that needs it. Made by [`Machine::new`], it is valid after every call.
+#[derive(Clone, PartialEq, Eq)]
+pub struct Machine {
+    bytes: Bytes,
+}
+
+impl Machine {
+    /// A new device and a new host end.
+    pub fn new(microphone: bool) -> Self {
+        let mut bytes = Bytes { device: [0; DEVICE], host: [0; HOST], lists: Box::new([0; LISTS]), queues: Box::new([0; QUEUES]) };
+        let made = calls::new(&mut bytes.device, &*bytes.lists, &*bytes.queues, microphone);
+        let made_host = calls::host_new(&mut bytes.host, &*bytes.queues);
+        assert_eq!((made.number(), made_host.number()), (number::DONE, number::DONE), "records and spaces have their lengths");
+        Self { bytes }
+    }
+
+    /// Any bytes, also such as no call leaves: calls on a machine that breaks a condition give 9 and change nothing.
+    pub fn from_bytes(bytes: Bytes) -> Self {
+        Self { bytes }
+    }
+
+    pub fn bytes(&self) -> &Bytes {
+        &self.bytes
+    }
+
+    fn answer(&self, reply: Reply) -> Answer {
+        reply.answer(&self.bytes.device)
+    }
+
+    /// `nanos` nanoseconds pass.
+    pub fn advance(&mut self, memory: &mut [u8], nanos: u64) -> Answer {
+        let Bytes { device, host, lists, queues } = &mut self.bytes;
+        let reply = calls::advance(device, host, &mut **lists, &mut **queues, memory, nanos);
+        self.answer(reply)
+    }
+
+    /// Registers from `offset` on, into `into`.
+    pub fn read(&self, offset: u64, into: &mut [u8]) -> Answer {
+        let Bytes { device, host, lists, queues } = &self.bytes;
+        self.answer(calls::read(device, host, &**lists, &**queues, offset, into))
+    }
+
+    /// A guest's write to the registers from `offset` on.
+    pub fn write(&mut self, memory: &mut [u8], offset: u64, bytes: &[u8]) -> Answer {
+        let Bytes { device, host, lists, queues } = &mut self.bytes;
+        let reply = calls::write(device, host, &**lists, &**queues, memory, offset, bytes);
+        self.answer(reply)
+    }
+
+    /// As [`Machine::read`] at base address 0; others read zeros.
+    pub fn bar_read(&self, bar: u32, offset: u64, into: &mut [u8]) -> Answer {
+        let Bytes { device, host, lists, queues } = &self.bytes;
+        self.answer(calls::bar_read(device, host, &**lists, &**queues, bar, offset, into))
+    }
+
+    /// As [`Machine::write`] at base address 0; others drop the write.
+    pub fn bar_write(&mut self, memory: &mut [u8], bar: u32, offset: u64, bytes: &[u8]) -> Answer {
+        let Bytes { device, host, lists, queues } = &mut self.bytes;
+        let reply = calls::bar_write(device, host, &**lists, &**queues, memory, bar, offset, bytes);
+        self.answer(reply)
+    }
+
+    /// A configuration register, which is the answer's value.
+    pub fn config_read(&self, register: u64) -> Answer {
+        let Bytes { device, host, lists, queues } = &self.bytes;
+        self.answer(calls::config_read(device, host, &**lists, &**queues, register))
+    }
+
+    /// A write to the configuration, from byte `offset` of a register on.
+    pub fn config_write(&mut self, memory: &mut [u8], register: u64, offset: u64, bytes: &[u8]) -> Answer {
+        let Bytes { device, host, lists, queues } = &mut self.bytes;
+        let reply = calls::config_write(device, host, &**lists, &**queues, memory, register, offset, bytes);
+        self.answer(reply)
+    }
+
+    /// Something was plugged in or out at a node.
+    pub fn pin_presence_changed(&mut self, memory: &mut [u8], node: u32) -> Answer {
+        let Bytes { device, host, lists, queues } = &mut self.bytes;
+        let reply = calls::pin_presence_changed(device, host, &**lists, &**queues, memory, node);
+        self.answer(reply)
+    }
+
+    /// Streams and clock stand still while paused.
+    pub fn set_paused(&mut self, paused: bool) -> Answer {
+        let Bytes { device, host, lists, queues } = &mut self.bytes;
+        let reply = calls::set_paused(device, host, &**lists, &**queues, paused);
+        self.answer(reply)
+    }
+
+    /// The saved state into the start of `into`; the answer's value is its length.
+    pub fn save(&self, into: &mut [u8]) -> Answer {
+        let Bytes { device, host, lists, queues } = &self.bytes;
+        self.answer(calls::save(device, host, &**lists, &**queues, into))
+    }
+
+    /// The saved state alone, empty where it was refused.
+    pub fn saved(&self) -> (Answer, Vec<u8>) {
+        let mut state = vec![0; MAX_STATE];
+        let answer = self.save(&mut state);
+        state.truncate(answer.value as usize);
+        (answer, state)
+    }
+
+    /// Frames for capture; the answer's value says how many were taken.
+    pub fn feed(&mut self, frames: &[u8]) -> Answer {
+        let reply = calls::feed(&mut self.bytes.host, &mut *self.bytes.queues, frames);
+        self.answer(reply)
+    }
+
+    /// Frames of playback; the answer's value says how many were given. The rest of `into` stays.
+    pub fn pull(&mut self, into: &mut [u8]) -> Answer {
+        let reply = calls::pull(&mut self.bytes.host, &mut *self.bytes.queues, into);
+        self.answer(reply)
+    }
+
+    /// Whether openings for playback fail.
+    pub fn set_playback_fails(&mut self, fails: bool) -> Answer {
+        let reply = calls::set_playback_fails(&mut self.bytes.host, &*self.bytes.queues, fails);
+        self.answer(reply)
+    }
+
+    /// Whether openings for capture fail.
+    pub fn set_capture_fails(&mut self, fails: bool) -> Answer {
+        let reply = calls::set_capture_fails(&mut self.bytes.host, &*self.bytes.queues, fails);
+        self.answer(reply)
+    }
+
+    /// How many bytes the host holds beyond the playback queue.
+    pub fn set_downstream(&mut self, bytes: u32) -> Answer {
+        let reply = calls::set_downstream(&mut self.bytes.host, &*self.bytes.queues, bytes);
+        self.answer(reply)
+    }
+}
+
+/// What the records hold. Streams and queues are named by their number: 0 captures, 1 plays.
+impl Machine {
+    pub fn microphone(&self) -> bool {
+        self.bytes.device[device::MICROPHONE] != 0
+    }
+
+    /// Ticks and billionths of the next tick.
+    pub fn clock(&self) -> (u64, u64) {
+        (get::<8>(&self.bytes.device, device::TICKS), get::<8>(&self.bytes.device, device::REMAINDER))
+    }
+
+    /// Whether the message of the present interrupt has been sent.
+    pub fn asserted(&self) -> bool {
+        self.bytes.device[device::ASSERTED] != 0
+    }
+
+    /// Positions that wait for the host, as bytes.
+    pub fn pending(&self, index: usize) -> &[u8] {
+        let count = get::<4>(&self.bytes.device, device::stream(index) + stream::PENDING) as usize;
+        let list = &self.bytes.lists[LIST * index..LIST * (index + 1)];
+        &list[..(8 * count).min(LIST)]
+    }
+
+    pub fn open(&self, index: usize) -> bool {
+        self.bytes.host[host::open(index)] != 0
+    }
+
+    /// The bytes queued.
+    pub fn queue(&self, index: usize) -> &[u8] {
+        let length = get::<4>(&self.bytes.host, host::length(index)) as usize;
+        let queue = &self.bytes.queues[QUEUE * index..QUEUE * (index + 1)];
+        &queue[..length.min(QUEUE)]
+    }
+
+    pub fn playback_fails(&self) -> bool {
+        self.bytes.host[host::PLAYBACK_FAILS] != 0
+    }
+
+    pub fn capture_fails(&self) -> bool {
+        self.bytes.host[host::CAPTURE_FAILS] != 0
+    }
+
+    pub fn downstream(&self) -> u32 {
+        get::<4>(&self.bytes.host, host::DOWNSTREAM) as u32
+    }
+}
+
+#[cfg(test)]
+mod tests {
+    use super::*;
+
+    #[test]
+    fn a_new_machine_answers() {
+        let machine = Machine::new(true);
+        let answer = machine.config_read(0);
+        assert_eq!((answer.number, answer.value, answer.level, answer.message), (number::DONE, 0x293e_8086, false, None));
+        let (answer, state) = machine.saved();
+        assert_eq!((answer.number, state.len(), &state[..5]), (number::DONE, 748, b"HDA1\x01".as_slice()));
+        assert_eq!(state, machine.bytes().device[..748]);
+        assert!(!Machine::new(false).microphone());
+    }
+
+    #[test]
+    fn frames_fed_are_kept_until_the_device_takes_them() {
+        let mut machine = Machine::new(true);
+        let mut memory = [0; 4096];
+        assert_eq!(machine.feed(&[1; 8]).value, 0);
+        machine.write(&mut memory, 0x92, &[0x11, 0]);
+        machine.write(&mut memory, 0x80, &[2]);
+        assert!(machine.open(0) && !machine.open(1));
+        assert_eq!(machine.feed(&[1; 8]).value, 2);
+        assert_eq!(machine.queue(0), [1; 8]);
+        assert_eq!(machine.feed(&[1; 3]).number, number::ODD_FRAMES);
+        assert_eq!(machine.pull(&mut [0; 8]).value, 0);
+        assert_eq!([14_336, 14_340].map(|bytes| machine.set_downstream(bytes).number), [number::DONE, number::LATENCY]);
+    }
+}

@@ -1,0 +1,99 @@
+//! What a call returns.
+use crate::layout::{DEVICE, device, get};
+
+/// Document 01's numbers, as far as these calls return them.
+pub mod number {
+    pub const DONE: u8 = 0;
+    /// An opening was refused in `advance`.
+    pub const HOST_CLOSED: u8 = 1;
+    /// A record that breaks a condition, or bytes that are none.
+    pub const STATE: u8 = 9;
+    /// Too little space lent.
+    pub const LENT_SPACE: u8 = 10;
+    pub const ODD_FRAMES: u8 = 11;
+    pub const LATENCY: u8 = 12;
+}
+
+/// The number that a C function returned. Bits 31..10 are always 0.
+#[derive(Clone, Copy, Debug, PartialEq, Eq)]
+pub struct Reply(pub u64);
+
+impl Reply {
+    /// Document 01's number.
+    pub fn number(self) -> u8 {
+        self.0 as u8
+    }
+
+    /// The INTx level that the call left; false where it was handed no device, or bytes that are none.
+    pub fn level(self) -> bool {
+        self.0 >> 8 & 1 != 0
+    }
+
+    /// Whether a message is to be sent: the one that [`Message::of`] finds in the device record.
+    pub fn sends(self) -> bool {
+        self.0 >> 9 & 1 != 0
+    }
+
+    /// Frames moved, bytes written, or the register read.
+    pub fn value(self) -> u32 {
+        (self.0 >> 32) as u32
+    }
+
+    /// The reply with its message, from the device record as the call left it.
+    pub fn answer(self, record: &[u8; DEVICE]) -> Answer {
+        let message = self.sends().then(|| Message::of(record));
+        Answer { number: self.number(), level: self.level(), message, value: self.value() }
+    }
+}
+
+/// One MSI message.
+#[derive(Clone, Copy, Debug, PartialEq, Eq)]
+pub struct Message {
+    pub address: u64,
+    pub data: u32,
+}
+
+impl Message {
+    /// The message that the configuration of a device record says.
+    pub fn of(record: &[u8; DEVICE]) -> Self {
+        Self { address: get::<8>(record, device::CONFIG + 0x64), data: get::<2>(record, device::CONFIG + 0x6c) as u32 }
+    }
+}
+
+/// All that a call tells.
+#[derive(Clone, Copy, Debug, PartialEq, Eq)]
+pub struct Answer {
+    /// Document 01's number.
+    pub number: u8,
+    /// The INTx level that the call left; false from calls on the host end alone.
+    pub level: bool,
+    pub message: Option<Message>,
+    /// Frames moved, bytes written, or the register read.
+    pub value: u32,
+}
+
+#[cfg(test)]
+mod tests {
+    use super::*;
+    use crate::layout::put;
+
+    #[test]
+    fn each_part_of_the_returned_number_is_read_alone() {
+        let parts = |reply: Reply| (reply.number(), reply.level(), reply.sends(), reply.value());
+        assert_eq!(parts(Reply(0)), (0, false, false, 0));
+        assert_eq!(parts(Reply(12)), (12, false, false, 0));
+        assert_eq!(parts(Reply(0x100)), (0, true, false, 0));
+        assert_eq!(parts(Reply(0x201)), (1, false, true, 0));
+        assert_eq!(parts(Reply(0x8086_293e_0000_010a)), (10, true, false, 0x8086_293e));
+        assert_eq!(parts(Reply(u64::MAX)), (255, true, true, u32::MAX));
+    }
+
+    #[test]
+    fn a_message_stands_in_the_record() {
+        let mut record = [0; DEVICE];
+        put::<8>(&mut record, 6 + 0x64, 0x0123_4567_89ab_cdef);
+        put::<4>(&mut record, 6 + 0x6c, 0xffff_4041);
+        assert_eq!(Reply(0x200).answer(&record).message, Some(Message { address: 0x0123_4567_89ab_cdef, data: 0x4041 }));
+        assert_eq!(Reply(0x100).answer(&record).message, None);
+    }
+}
