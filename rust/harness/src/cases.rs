@@ -1,12 +1,13 @@
-//! Known answers: an op log with expectations, run on the reference and the amended oracle.
+//! Known answers: an op log with expectations, run on the reference, the amended oracle and the port.
 //!
-//! A line `? SIDE WHAT VALUE` is about the call before it. SIDE is `reference`, `amended` or `both`; WHAT is `number`, `value`, `bytes`, `intx`, `msi`
+//! A line `? SIDE WHAT VALUE` is about the call before it. SIDE is `reference`, `amended`, which the port follows, or `both`; WHAT is `number`, `value`, `bytes`, `intx`, `msi`
 //! or a field of the view, such as `capture.submitted` or `register.83`. A line `? parts NAMES` says that the two are the same up to the call
 //! before it and part there, by these differences (joined by `+`). Without such a line they are the same to the end.
 use crate::device::{Amended, Reference};
 use crate::differences::Differences;
-use crate::lockstep::{DEFAULT_MEMORY, run_ops};
+use crate::lockstep::{DEFAULT_MEMORY, Lockstep, run_ops};
 use crate::ops::{Op, execute, hex};
+use crate::ported::Port;
 use crate::side::{Answer, Side};
 
 struct Expectation {
@@ -29,7 +30,8 @@ pub fn check(text: &str) -> Result<(), String> {
     let case = parse(text)?;
     check_side::<Reference>(&case, "reference")?;
     check_side::<Amended>(&case, "amended")?;
-    let parting = run_ops::<Reference, Amended>(&case.ops).map(|parting| (parting.place + 1, parting.fired));
+    check_side::<Port>(&case, "amended").map_err(|error| format!("port: {error}"))?;
+    let parting = run_ops::<Lockstep<Reference, Amended>>(&case.ops).map(|parting| (parting.place + 1, parting.fired));
     if parting != case.parting {
         return Err(format!("parting (calls made, differences): expected {:?}, came {parting:?}", case.parting));
     }

@@ -98,6 +98,8 @@ macro_rules! rust_side {
             }
 
             impl Side for Device {
+                const NAME: &'static str = stringify!($crate_name);
+
                 fn new(microphone: bool, length: usize) -> Self {
                     let memory = GuestMemory::from_ranges(&[(GuestAddress(0), length)]).expect("guest memory can be had");
                     let (host, wires) = (Arc::new(HostEnd::default()), Arc::new(Wires::default()));

@@ -7,9 +7,11 @@ pub mod generate;
 pub mod host;
 pub mod lockstep;
 pub mod ops;
+pub mod ported;
 pub mod shrink;
 pub mod side;
 pub mod state;
 pub mod trace;
+pub mod trio;
 
 pub use random;

@@ -1,4 +1,4 @@
-//! Two sides in step: the same call on both, then answer, view and guest memory are compared.
+//! Sides in step: the same call on each, then answer, view and guest memory are compared.
 use crate::coverage::Coverage;
 use crate::differences::Differences;
 use crate::generate::Generator;
@@ -15,18 +15,22 @@ const SHOWN: usize = 12;
 /// The first call after which two sides were not the same.
 #[derive(Clone, Debug)]
 pub struct Parting {
+    /// Names of the two.
+    pub sides: [&'static str; 2],
     /// Place of the call in its sequence, from 0.
     pub place: usize,
     pub op: Op,
     /// The differences of document 01 that this very call met. Views before it were the same: nothing earlier explains the parting.
     pub fired: Differences,
+    /// Whether a difference excuses these two: one of them is the unchanged reference.
+    pub excusable: bool,
     /// What differs, one line each.
     pub what: Vec<String>,
 }
 
 impl Parting {
     pub fn is_explained(&self) -> bool {
-        !self.fired.is_empty()
+        self.excusable && !self.fired.is_empty()
     }
 }
 
@@ -34,7 +38,8 @@ impl fmt::Display for Parting {
     fn fmt(&self, f: &mut fmt::Formatter) -> fmt::Result {
         let op = self.op.to_string();
         let short: String = op.chars().take(100).collect();
-        writeln!(f, "parting at call {} ({}): {short}{}", self.place, self.fired, if op.len() > 100 { ".." } else { "" })?;
+        let [left, right] = self.sides;
+        writeln!(f, "{left} | {right} part at call {} ({}): {short}{}", self.place, self.fired, if op.len() > 100 { ".." } else { "" })?;
         for line in &self.what {
             writeln!(f, "    {line}")?;
         }
@@ -42,61 +47,91 @@ impl fmt::Display for Parting {
     }
 }
 
+/// Sides that are driven together.
+pub trait InStep {
+    fn new() -> Self;
+    /// Makes one call on every side. The answer is given back; where two sides differ, the parting.
+    fn step(&mut self, op: &Op) -> Result<Answer, Box<Parting>>;
+    fn coverage(&mut self) -> &mut Coverage;
+}
+
 /// Two sides with what they held after the last call.
 pub struct Lockstep<L, R> {
     pub left: L,
     pub right: R,
     place: usize,
-    before: View,
-    pub coverage: Coverage,
+    before: Vec<u8>,
+    coverage: Coverage,
 }
 
-impl<L: Side, R: Side> Lockstep<L, R> {
-    pub fn new() -> Self {
+impl<L: Side, R: Side> InStep for Lockstep<L, R> {
+    fn new() -> Self {
         let (left, right) = (L::new(true, DEFAULT_MEMORY), R::new(true, DEFAULT_MEMORY));
-        let before = left.view();
+        let before = left.view().state;
         Self { left, right, place: 0, before, coverage: Coverage::default() }
     }
 
-    /// Makes one call on both sides. The left side's answer is given back; where the sides differ, the parting.
-    pub fn step(&mut self, op: &Op) -> Result<Answer, Box<Parting>> {
+    fn step(&mut self, op: &Op) -> Result<Answer, Box<Parting>> {
         self.take_differences();
-        let left = catch_unwind(AssertUnwindSafe(|| observe(&mut self.left, op)));
-        let right = catch_unwind(AssertUnwindSafe(|| observe(&mut self.right, op)));
+        let (left, right) = (Seen::after(&mut self.left, op), Seen::after(&mut self.right, op));
         let fired = self.take_differences();
+        let what = differing((&self.left, &left), (&self.right, &right));
         let place = self.place;
         self.place += 1;
-        let part = |what| Err(Box::new(Parting { place, op: op.clone(), fired, what }));
-        let ((answer, view), (other_answer, other_view)) = match (left, right) {
-            (Ok(left), Ok(right)) => (left, right),
-            (left, right) => return part(vec![format!("panicked: left {}, right {}", left.is_err(), right.is_err())]),
-        };
-        self.coverage.record(op, &answer, &self.before.state, &view.state, fired);
-        let same_memory = self.left.memory() == self.right.memory();
-        if answer != other_answer || view != other_view || !same_memory {
-            let mut what = differing_answer(&answer, &other_answer);
-            what.extend(differing_fields(&view, &other_view));
-            what.extend(differing_memory(self.left.memory(), self.right.memory()));
-            return part(what);
+        if let Some(Seen { answer, view }) = &left {
+            self.coverage.record(op, answer, &self.before, &view.state, fired);
         }
-        self.before = view;
-        Ok(answer)
+        match left {
+            Some(Seen { answer, view }) if what.is_empty() => {
+                self.before = view.state;
+                Ok(answer)
+            }
+            _ => Err(Box::new(Parting { sides: [L::NAME, R::NAME], place, op: op.clone(), fired, excusable: true, what })),
+        }
     }
 
+    fn coverage(&mut self) -> &mut Coverage {
+        &mut self.coverage
+    }
+}
+
+impl<L: Side, R: Side> Lockstep<L, R> {
     fn take_differences(&mut self) -> Differences {
         self.left.take_differences().union(self.right.take_differences())
     }
 }
 
-impl<L: Side, R: Side> Default for Lockstep<L, R> {
-    fn default() -> Self {
-        Self::new()
+/// What a call told, and what its side then held.
+pub struct Seen {
+    pub answer: Answer,
+    pub view: View,
+}
+
+impl Seen {
+    /// Makes the call; none where it panicked.
+    pub fn after<S: Side>(side: &mut S, op: &Op) -> Option<Self> {
+        catch_unwind(AssertUnwindSafe(|| {
+            let answer = execute(side, op);
+            Self { answer, view: side.view() }
+        }))
+        .ok()
     }
 }
 
-fn observe<S: Side>(side: &mut S, op: &Op) -> (Answer, View) {
-    let answer = execute(side, op);
-    (answer, side.view())
+/// What differs between two sides after a call, one line each; nothing if they are the same.
+pub fn differing<L: Side, R: Side>(left: (&L, &Option<Seen>), right: (&R, &Option<Seen>)) -> Vec<String> {
+    let ((left, left_seen), (right, right_seen)) = (left, right);
+    let (Some(left_seen), Some(right_seen)) = (left_seen, right_seen) else {
+        return vec![format!("panicked: {} | {}", left_seen.is_none(), right_seen.is_none())];
+    };
+    let same = left_seen.answer == right_seen.answer && left_seen.view == right_seen.view && left.memory() == right.memory();
+    if same {
+        return Vec::new();
+    }
+    let mut what = differing_answer(&left_seen.answer, &right_seen.answer);
+    what.extend(differing_fields(&left_seen.view, &right_seen.view));
+    what.extend(differing_memory(left.memory(), right.memory()));
+    what
 }
 
 fn differing_answer(left: &Answer, right: &Answer) -> Vec<String> {
@@ -136,26 +171,26 @@ pub struct Run {
     pub parting: Option<Box<Parting>>,
 }
 
-/// Drives two sides with `length` calls of a seed.
-pub fn run_seed<L: Side, R: Side>(seed: u64, length: usize, tame: bool, coverage: &mut Coverage) -> Run {
+/// Drives sides with `length` calls of a seed.
+pub fn run_seed<T: InStep>(seed: u64, length: usize, tame: bool, coverage: &mut Coverage) -> Run {
     let mut generator = Generator::new(seed, tame);
-    let mut lockstep = Lockstep::<L, R>::new();
-    std::mem::swap(&mut lockstep.coverage, coverage);
+    let mut sides = T::new();
+    std::mem::swap(sides.coverage(), coverage);
     let mut run = Run { ops: Vec::new(), parting: None };
     while run.ops.len() < length && run.parting.is_none() {
         let op = generator.next_op();
-        match lockstep.step(&op) {
+        match sides.step(&op) {
             Ok(answer) => generator.observe(&op, &answer),
             Err(parting) => run.parting = Some(parting),
         }
         run.ops.push(op);
     }
-    std::mem::swap(&mut lockstep.coverage, coverage);
+    std::mem::swap(sides.coverage(), coverage);
     run
 }
 
-/// Drives two sides with a list of calls, up to the first parting.
-pub fn run_ops<L: Side, R: Side>(ops: &[Op]) -> Option<Box<Parting>> {
-    let mut lockstep = Lockstep::<L, R>::new();
-    ops.iter().find_map(|op| lockstep.step(op).err())
+/// Drives sides with a list of calls, up to the first parting.
+pub fn run_ops<T: InStep>(ops: &[Op]) -> Option<Box<Parting>> {
+    let mut sides = T::new();
+    ops.iter().find_map(|op| sides.step(op).err())
 }

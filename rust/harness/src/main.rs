@@ -2,29 +2,33 @@
 use harness::coverage::Coverage;
 use harness::device::{Amended, Reference};
 use harness::generate::Generator;
-use harness::lockstep::{DEFAULT_MEMORY, Lockstep, Parting, Run, run_ops, run_seed};
+use harness::lockstep::{DEFAULT_MEMORY, InStep, Lockstep, Parting, Run, run_ops, run_seed};
 use harness::ops::{Op, execute, number, parse_log, result_line};
+use harness::ported::Port;
 use harness::shrink::shrink;
 use harness::side::Side;
 use harness::trace;
+use harness::trio::Trio;
 use std::collections::BTreeMap;
 use std::process::ExitCode;
 use std::time::{Duration, Instant};
 
 const USAGE: &str = "\
-judge lockstep --first SEED --count N --length L [--tame]
+judge lockstep --first SEED --count N --length L [--tame] [--port]
     N random sequences of L calls, one for each seed from SEED on: the reference against the amended oracle.
     Fails if they part at a call that met none of document 01's differences. --tame keeps all addresses in range.
-judge soak SECONDS [--first SEED]
+    --port, here and below: the port against the amended oracle, from which it may never part, and against the
+    reference until a difference fires.
+judge soak SECONDS [--first SEED] [--port]
     The same for a time, wild and tame by turns.
 judge generate SEED LENGTH [--tame]
     Prints the op log of a seed with the reference's results.
-judge shrink SEED LENGTH [--tame] | judge shrink FILE
-    Prints a small op log on which the two still part as they do in the sequence of a seed, or in a file.
-judge run FILE [--side reference|amended]
+judge shrink SEED LENGTH [--tame] [--port] | judge shrink FILE [--port]
+    Prints a small op log on which sides still part as they do in the sequence of a seed, or in a file.
+judge run FILE [--side reference|amended|port]
     Runs an op log and prints each call with its result.
-judge trace FILE
-    Replays a driver's trace on both, with time passing between its lines.
+judge trace FILE [--port]
+    Replays a driver's trace, with time passing between its lines.
 judge --help";
 
 /// Unexplained partings that are shown in full.
@@ -54,21 +58,21 @@ fn command(words: &[String]) -> Result<bool, String> {
     if let Some(fault) = amended::FAULT {
         eprintln!("the amended oracle has the seeded fault {fault}");
     }
-    compare::<Reference, Amended>(options)
+    if options.port { compare::<Trio>(options) } else { compare::<Lockstep<Reference, Amended>>(options) }
 }
 
-/// The commands, for two sides.
-fn compare<L: Side, R: Side>(mut options: Options) -> Result<bool, String> {
+/// The commands, for sides in step.
+fn compare<T: InStep>(mut options: Options) -> Result<bool, String> {
     match options.word()?.as_str() {
         "lockstep" => {
             let (first, count, length) = (options.named("--first")?, options.named("--count")?, options.named("--length")? as usize);
             options.end()?;
-            Ok(lockstep::<L, R>(first, count, length, options.tame))
+            Ok(lockstep::<T>(first, count, length, options.tame))
         }
         "soak" => {
             let (seconds, first) = (options.number()?, options.named("--first").unwrap_or(1));
             options.end()?;
-            Ok(soak::<L, R>(Duration::from_secs(seconds), first))
+            Ok(soak::<T>(Duration::from_secs(seconds), first))
         }
         "generate" => {
             let (seed, length) = (options.number()?, options.number()? as usize);
@@ -76,12 +80,12 @@ fn compare<L: Side, R: Side>(mut options: Options) -> Result<bool, String> {
             generate(seed, length, options.tame);
             Ok(true)
         }
-        "shrink" => shrink_command::<L, R>(options),
+        "shrink" => shrink_command::<T>(options),
         "run" => run(options),
         "trace" => {
             let text = read(&options.word()?)?;
             options.end()?;
-            replay::<L, R>(&text)
+            replay::<T>(&text)
         }
         "--help" | "help" => {
             println!("{USAGE}");
@@ -96,16 +100,18 @@ struct Options {
     words: std::vec::IntoIter<String>,
     named: BTreeMap<String, String>,
     tame: bool,
+    port: bool,
 }
 
 impl Options {
     fn parse(words: &[String]) -> Result<Self, String> {
-        let mut options = Self { words: Vec::new().into_iter(), named: BTreeMap::new(), tame: false };
+        let mut options = Self { words: Vec::new().into_iter(), named: BTreeMap::new(), tame: false, port: false };
         let mut rest = Vec::new();
         let mut words = words.iter();
         while let Some(word) = words.next() {
             match word.as_str() {
                 "--tame" => options.tame = true,
+                "--port" => options.port = true,
                 "--first" | "--count" | "--length" | "--side" => {
                     let value = words.next().ok_or_else(|| format!("{word} without a value"))?;
                     options.named.insert(word.clone(), value.clone());
@@ -160,8 +166,8 @@ impl Tally {
         Self { start: now, shown: now, sequences: 0, coverage: Coverage::default(), explained: BTreeMap::new(), unexplained: 0 }
     }
 
-    fn sequence<L: Side, R: Side>(&mut self, seed: u64, length: usize, tame: bool) {
-        let run = run_seed::<L, R>(seed, length, tame, &mut self.coverage);
+    fn sequence<T: InStep>(&mut self, seed: u64, length: usize, tame: bool) {
+        let run = run_seed::<T>(seed, length, tame, &mut self.coverage);
         self.sequences += 1;
         if let Some(parting) = run.parting {
             self.part(seed, length, tame, &parting);
@@ -179,7 +185,8 @@ impl Tally {
         }
         self.unexplained += 1;
         if self.unexplained <= SHOWN as u64 {
-            println!("seed {seed}: {parting}  to shrink it: judge shrink {seed} {length}{}", if tame { " --tame" } else { "" });
+            let (tame, port) = (if tame { " --tame" } else { "" }, if parting.excusable { "" } else { " --port" });
+            println!("seed {seed}: {parting}  to shrink it: judge shrink {seed} {length}{tame}{port}");
         }
     }
 
@@ -205,19 +212,19 @@ impl Tally {
     }
 }
 
-fn lockstep<L: Side, R: Side>(first: u64, count: u64, length: usize, tame: bool) -> bool {
+fn lockstep<T: InStep>(first: u64, count: u64, length: usize, tame: bool) -> bool {
     let mut tally = Tally::new();
     for seed in first..first.saturating_add(count) {
-        tally.sequence::<L, R>(seed, length, tame);
+        tally.sequence::<T>(seed, length, tame);
     }
     tally.report()
 }
 
-fn soak<L: Side, R: Side>(time: Duration, first: u64) -> bool {
+fn soak<T: InStep>(time: Duration, first: u64) -> bool {
     let mut tally = Tally::new();
     let mut seed = first;
     while tally.start.elapsed() < time {
-        tally.sequence::<L, R>(seed, SOAK_LENGTH, seed.is_multiple_of(2));
+        tally.sequence::<T>(seed, SOAK_LENGTH, seed.is_multiple_of(2));
         seed += 1;
     }
     println!("seeds {first} to {}", seed - 1);
@@ -235,16 +242,16 @@ fn generate(seed: u64, length: usize, tame: bool) {
     }
 }
 
-fn shrink_command<L: Side, R: Side>(mut options: Options) -> Result<bool, String> {
+fn shrink_command<T: InStep>(mut options: Options) -> Result<bool, String> {
     let word = options.word()?;
     let run = match number(&word) {
         Some(seed) => {
             let length = options.number()? as usize;
-            run_seed::<L, R>(seed, length, options.tame, &mut Coverage::default())
+            run_seed::<T>(seed, length, options.tame, &mut Coverage::default())
         }
         None => {
             let ops = parse_log(&read(&word)?)?;
-            let parting = run_ops::<L, R>(&ops);
+            let parting = run_ops::<T>(&ops);
             Run { ops, parting }
         }
     };
@@ -253,12 +260,12 @@ fn shrink_command<L: Side, R: Side>(mut options: Options) -> Result<bool, String
         println!("no parting");
         return Ok(true);
     };
-    let shows = |ops: &[Op]| run_ops::<L, R>(ops).is_some_and(|found| found.fired == parting.fired);
+    let shows = |ops: &[Op]| run_ops::<T>(ops).is_some_and(|found| (found.sides, found.fired) == (parting.sides, parting.fired));
     let small = shrink(&run.ops, shows);
     for op in &small {
         println!("{op}");
     }
-    for line in run_ops::<L, R>(&small).map(|found| found.to_string()).unwrap_or_default().lines() {
+    for line in run_ops::<T>(&small).map(|found| found.to_string()).unwrap_or_default().lines() {
         println!("# {line}");
     }
     Ok(parting.is_explained())
@@ -271,6 +278,7 @@ fn run(mut options: Options) -> Result<bool, String> {
     match side.as_str() {
         "reference" => run_side::<Reference>(&ops),
         "amended" => run_side::<Amended>(&ops),
+        "port" => run_side::<Port>(&ops),
         _ => return Err(format!("no side {side}")),
     }
     Ok(true)
@@ -284,10 +292,10 @@ fn run_side<S: Side>(ops: &[Op]) {
     }
 }
 
-/// A driver's trace on both sides; the host pulls and feeds as time passes. True if the sides never part.
-fn replay<L: Side, R: Side>(text: &str) -> Result<bool, String> {
+/// A driver's trace on all sides; the host pulls and feeds as time passes. True if the sides never part.
+fn replay<T: InStep>(text: &str) -> Result<bool, String> {
     let steps = trace::parse(text)?;
-    let mut lockstep = Lockstep::<L, R>::new();
+    let mut sides = T::new();
     let (mut reads, mut as_recorded) = (0, 0);
     let mut calls = vec![(Op::New { microphone: true, memory: TRACE_MEMORY }, None)];
     for (line, step) in steps.iter().enumerate() {
@@ -298,7 +306,7 @@ fn replay<L: Side, R: Side>(text: &str) -> Result<bool, String> {
         }
     }
     for (op, read) in calls {
-        let answer = match lockstep.step(&op) {
+        let answer = match sides.step(&op) {
             Ok(answer) => answer,
             Err(parting) => {
                 print!("{parting}");
@@ -311,7 +319,7 @@ fn replay<L: Side, R: Side>(text: &str) -> Result<bool, String> {
             as_recorded += u64::from(step.matches(if answer.bytes.is_empty() { &value } else { &answer.bytes }));
         }
     }
-    print!("{}", lockstep.coverage);
+    print!("{}", sides.coverage());
     println!("{} lines, no parting; {as_recorded} of {reads} reads gave the value of the trace, which knows other times", steps.len());
     Ok(true)
 }

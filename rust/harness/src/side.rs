@@ -1,6 +1,6 @@
 //! One side of a differential run: a device with its host end and guest memory, behind the calls of document 01.
 //!
-//! Nothing here knows how a side is made. The Rust devices are two sides (device.rs); the port's C functions are to be a third.
+//! Nothing here knows how a side is made. The Rust devices are two sides (device.rs), the port's C functions a third (ported.rs).
 use crate::differences::Differences;
 use crate::state::{self, Fields};
 
@@ -88,6 +88,8 @@ impl View {
 
 /// A device with host end and guest memory. Every call of document 01, and below them what only the harness needs.
 pub trait Side {
+    const NAME: &'static str;
+
     /// A new device, a new host end and `memory` bytes of zeros.
     fn new(microphone: bool, memory: usize) -> Self
     where

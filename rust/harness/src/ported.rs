@@ -1,0 +1,175 @@
+//! The side over the port's C functions.
+//!
+//! Restore is not among them yet: until it is, this side asks the amended oracle and lays what an accepted state left there into its records. So a lockstep says
+//! nothing about the port's restore, but much about its calls on restored states.
+use crate::device::Amended;
+use crate::side::{Direction, Interrupts, Message, Side, View, number};
+use crate::state::State;
+use port::layout::{self, device, host, put};
+use port::{Answer, Bytes, Machine};
+
+pub struct Port {
+    machine: Machine,
+    memory: Vec<u8>,
+    interrupts: Interrupts,
+    /// Whether the next register access goes by its base address: both forms are used, by turns.
+    by_bar: bool,
+}
+
+impl Port {
+    /// Takes the interrupt outcome of a call on the device; the number is given back.
+    fn told(&mut self, answer: Answer) -> u32 {
+        self.interrupts.level = answer.level;
+        self.interrupts.messages.extend(answer.message.map(|message| Message { address: message.address, data: message.data }));
+        u32::from(answer.number)
+    }
+
+    /// Changes the bytes of records and lent spaces.
+    pub fn change(&mut self, change: impl FnOnce(&mut Bytes)) {
+        let mut bytes = self.machine.bytes().clone();
+        change(&mut bytes);
+        self.machine = Machine::from_bytes(bytes);
+    }
+
+    fn swap_form(&mut self) -> bool {
+        self.by_bar = !self.by_bar;
+        self.by_bar
+    }
+
+    /// An amended device for which a restore is the same as for this one: its outcome depends on microphone, clock and switches alone.
+    fn oracle(&self) -> Amended {
+        let mut oracle = Amended::new(self.machine.microphone(), layout::QUEUE);
+        let (_, fresh) = oracle.save();
+        let mut state = State::parse(&fresh).expect("a new device saves a state");
+        (state.ticks, state.remainder) = self.machine.clock();
+        assert_eq!(oracle.restore(&state.bytes()), number::DONE, "a new device takes another clock");
+        oracle.set_opening_fails(Direction::Capture, self.machine.capture_fails());
+        oracle.set_opening_fails(Direction::Playback, self.machine.playback_fails());
+        oracle
+    }
+}
+
+impl Side for Port {
+    const NAME: &'static str = "port";
+
+    fn new(microphone: bool, memory: usize) -> Self {
+        Self { machine: Machine::new(microphone), memory: vec![0; memory], interrupts: Interrupts::default(), by_bar: false }
+    }
+
+    fn advance(&mut self, nanoseconds: u64) -> u32 {
+        let answer = self.machine.advance(&mut self.memory, nanoseconds);
+        self.told(answer)
+    }
+    fn read(&mut self, offset: u64, data: &mut [u8]) -> u32 {
+        let by_bar = self.swap_form();
+        let answer = if by_bar { self.machine.bar_read(0, offset, data) } else { self.machine.read(offset, data) };
+        self.told(answer)
+    }
+    fn write(&mut self, offset: u64, data: &[u8]) -> u32 {
+        let by_bar = self.swap_form();
+        let (machine, memory) = (&mut self.machine, &mut self.memory);
+        let answer = if by_bar { machine.bar_write(memory, 0, offset, data) } else { machine.write(memory, offset, data) };
+        self.told(answer)
+    }
+    fn config_read(&mut self, register: u64) -> (u32, u32) {
+        let answer = self.machine.config_read(register);
+        (self.told(answer), answer.value)
+    }
+    fn config_write(&mut self, register: u64, offset: u64, data: &[u8]) -> u32 {
+        let answer = self.machine.config_write(&mut self.memory, register, offset, data);
+        self.told(answer)
+    }
+    fn change_pin(&mut self, node: u8) -> u32 {
+        let answer = self.machine.pin_presence_changed(&mut self.memory, u32::from(node));
+        self.told(answer)
+    }
+    fn set_paused(&mut self, paused: bool) -> u32 {
+        let answer = self.machine.set_paused(paused);
+        self.told(answer)
+    }
+    fn feed(&mut self, frames: &[u8]) -> (u32, u32) {
+        let answer = self.machine.feed(frames);
+        (u32::from(answer.number), answer.value)
+    }
+    fn pull(&mut self, frames: &mut [u8]) -> (u32, u32) {
+        let answer = self.machine.pull(frames);
+        (u32::from(answer.number), answer.value)
+    }
+    fn set_opening_fails(&mut self, direction: Direction, fails: bool) -> u32 {
+        let answer = match direction {
+            Direction::Capture => self.machine.set_capture_fails(fails),
+            Direction::Playback => self.machine.set_playback_fails(fails),
+        };
+        u32::from(answer.number)
+    }
+    fn set_downstream(&mut self, bytes: u32) -> u32 {
+        u32::from(self.machine.set_downstream(bytes).number)
+    }
+    fn save(&mut self) -> (u32, Vec<u8>) {
+        let (answer, state) = self.machine.saved();
+        (self.told(answer), state)
+    }
+    fn restore(&mut self, state: &[u8]) -> u32 {
+        let mut oracle = self.oracle();
+        oracle.take_interrupts();
+        let number = oracle.restore(state);
+        if number == number::DONE {
+            let view = oracle.view();
+            self.change(|bytes| lay(bytes, &view));
+            let Interrupts { level, messages } = oracle.take_interrupts();
+            self.interrupts.level = level;
+            self.interrupts.messages.extend(messages);
+        }
+        number
+    }
+
+    fn close(&mut self, direction: Direction) {
+        self.change(|bytes| close(bytes, direction.index()));
+    }
+    fn memory(&self) -> &[u8] {
+        &self.memory
+    }
+    fn memory_mut(&mut self) -> &mut [u8] {
+        &mut self.memory
+    }
+    fn take_interrupts(&mut self) -> Interrupts {
+        let level = self.interrupts.level;
+        std::mem::replace(&mut self.interrupts, Interrupts { level, messages: Vec::new() })
+    }
+    fn view(&self) -> View {
+        let machine = &self.machine;
+        let (answer, state) = machine.saved();
+        assert_eq!(u32::from(answer.number), number::DONE, "a machine that only calls have changed can be saved");
+        View {
+            state,
+            asserted: machine.asserted(),
+            open: [0, 1].map(|index| machine.open(index)),
+            queues: [0, 1].map(|index| machine.queue(index).to_vec()),
+            opening_fails: [machine.capture_fails(), machine.playback_fails()],
+            downstream: machine.downstream(),
+        }
+    }
+}
+
+fn close(bytes: &mut Bytes, index: usize) {
+    bytes.host[host::open(index)] = 0;
+    put::<4>(&mut bytes.host, host::length(index), 0);
+}
+
+/// Lays what a restore left into the records: the device whole, and of the host end the openings, whose queues are empty.
+fn lay(bytes: &mut Bytes, view: &View) {
+    let state = State::parse(&view.state).expect("a device saves a state");
+    let head = device::stream(0);
+    bytes.device[..head].copy_from_slice(&view.state[..head]);
+    bytes.device[device::ASSERTED] = u8::from(view.asserted);
+    let mut saved = &view.state[head..];
+    for (index, stream) in state.streams.iter().enumerate() {
+        let (numbers, rest) = saved.split_at(device::STREAM);
+        let (list, rest) = rest.split_at(8 * stream.pending.len());
+        bytes.device[device::stream(index)..device::stream(index + 1)].copy_from_slice(numbers);
+        bytes.lists[layout::LIST * index..][..list.len()].copy_from_slice(list);
+        saved = rest;
+        close(bytes, index);
+        bytes.host[host::open(index)] = u8::from(view.open[index]);
+    }
+}
