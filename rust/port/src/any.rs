@@ -1,6 +1,6 @@
 //! Any call on any bytes, for tests of what calls refuse: records of any length and content, spaces of any length.
-use crate::layout::{DEVICE, HOST, LISTS, QUEUES};
-use crate::{Machine, Reply, calls};
+use crate::layout::{DEVICE, HOST, LIST, LISTS, MAX_DOWNSTREAM, POSITIONS, QUEUE, QUEUES, STREAMS, device, get, host, stream};
+use crate::{Machine, Reply, calls, number};
 
 /// All that calls can be lent. A call uses what it is handed; `buffer` is what it reads into, writes from, saves into, feeds or pulls.
 #[derive(Clone, PartialEq, Eq)]
@@ -27,18 +27,70 @@ impl Lent {
         }
     }
 
-    /// Whether the spaces of a call on a device have their least lengths.
-    pub fn has_spaces(&self) -> bool {
-        self.lists.len() >= LISTS && self.has_queues()
+    /// Document 01's 10 or 9 that a call gives before anything else, written from its text ("Numbers returned"); save's own 10 is another matter.
+    pub fn refusal(&self, handed: Handed) -> Option<u8> {
+        let short_queues = self.queues.len() < QUEUES;
+        let short = short_queues || self.lists.len() < LISTS;
+        let (short, valid) = match handed {
+            Handed::NewDevice => (short, self.device.len() == DEVICE),
+            Handed::NewHost => (short_queues, self.host.len() == HOST),
+            Handed::Host => (short_queues, is_valid_host(&self.host)),
+            Handed::Machine => (short, !short && is_valid_host(&self.host) && is_valid_device(&self.device, &self.lists)),
+        };
+        if short { Some(number::LENT_SPACE) } else { (!valid).then_some(number::STATE) }
     }
 
-    pub fn has_queues(&self) -> bool {
-        self.queues.len() >= QUEUES
+    /// Whether device and host end are records at all: then the device has an INTx level.
+    pub fn are_records(&self) -> bool {
+        is_device(&self.device) && is_host(&self.host)
     }
+}
 
-    pub fn has_record_lengths(&self) -> bool {
-        self.device.len() == DEVICE && self.host.len() == HOST
-    }
+fn is_device(record: &[u8]) -> bool {
+    let flags = [device::MICROPHONE, device::PAUSED, device::ASSERTED];
+    record.len() == DEVICE && record[..4] == *b"HDA1" && flags.iter().all(|place| record[*place] <= 1)
+}
+
+fn is_host(record: &[u8]) -> bool {
+    let flags = [host::PLAYBACK_FAILS, host::CAPTURE_FAILS, host::open(0), host::open(1)];
+    record.len() == HOST && flags.iter().all(|place| record[*place] <= 1)
+}
+
+/// A device record that breaks none of 6, 7, 8, nor of 9 on clock, responses and identity.
+fn is_valid_device(record: &[u8], lists: &[u8]) -> bool {
+    is_device(record)
+        && get::<8>(record, device::REMAINDER) < 1_000_000_000
+        && get::<2>(record, device::RESPONSES) <= 255
+        && get::<4>(record, device::CONFIG) == 0x293e_8086
+        && (0..STREAMS).all(|index| is_valid_stream(&record[device::stream(index)..], &lists[LIST * index..]))
+}
+
+fn is_valid_stream(numbers: &[u8], list: &[u8]) -> bool {
+    let (consumed, submitted) = (get::<8>(numbers, stream::CONSUMED), get::<8>(numbers, stream::SUBMITTED));
+    let pending = get::<4>(numbers, stream::PENDING) as usize;
+    let mut last = consumed;
+    pending <= POSITIONS
+        && (0..pending).all(|place| {
+            let before = std::mem::replace(&mut last, get::<8>(list, 8 * place));
+            before < last && last <= submitted
+        })
+        && get::<2>(numbers, stream::DESCRIPTOR) <= 255
+        && consumed <= submitted
+        && get::<8>(numbers, stream::TIME) < 8193 * 1_000_000_000
+}
+
+/// A host end record that does not break 12, with queues of at most 2,048 bytes in whole frames, empty on a closed stream.
+fn is_valid_host(record: &[u8]) -> bool {
+    let is_valid_queue = |index| {
+        let length = get::<4>(record, host::length(index));
+        length <= QUEUE as u64 && length % 4 == 0 && (length == 0 || record[host::open(index)] == 1)
+    };
+    is_host(record) && is_valid_downstream(get::<4>(record, host::DOWNSTREAM)) && (0..STREAMS).all(is_valid_queue)
+}
+
+/// Number 12's condition.
+pub fn is_valid_downstream(bytes: u64) -> bool {
+    bytes <= u64::from(MAX_DOWNSTREAM) && bytes % 4 == 0
 }
 
 /// A call with its numbers.

@@ -1,0 +1,129 @@
+/* The ICH9 HDA sound device of libport.a (`rt staticlib port`), for C and C++ on x86-64.
+ *
+ * The caller keeps everything: the device and its host end are records of bytes, and lists, queues and guest memory are lent to each call. docs/LAYOUT.md has the
+ * bytes of the records. Any bytes of any length may be handed in, in any order of calls: a function reads and writes its slices, at most to their lengths, and nothing
+ * else, and it always returns. Slices of one call must not overlap. Numbers in records are little-endian.
+ *
+ * Stream 0 captures, stream 1 plays.
+ */
+#ifndef HDA_H
+#define HDA_H
+
+#include <stddef.h>
+#include <stdint.h>
+
+#ifdef __cplusplus
+extern "C" {
+#endif
+
+/* Lengths. Those of the records are exact, those of the spaces the least; the space of a saved state is what any state needs at most. */
+#define HDA_DEVICE_BYTES 749
+#define HDA_HOST_BYTES 16
+#define HDA_LISTS_BYTES 69632
+#define HDA_QUEUES_BYTES 4096
+#define HDA_STATE_BYTES_MAX 70380
+
+/* The numbers that calls return (hda_number). A refusal changes nothing, except HDA_HOST_CLOSED from hda_advance. */
+#define HDA_DONE 0
+#define HDA_HOST_CLOSED 1  /* an opening failed in hda_advance: the stream stopped, what came before stands */
+#define HDA_STATE 9        /* bytes that are no record, or a record that breaks a condition */
+#define HDA_LENT_SPACE 10  /* lists, queues, or the space for a saved state too short */
+#define HDA_ODD_FRAMES 11  /* hda_feed, hda_pull: length no multiple of 4 */
+#define HDA_LATENCY 12     /* hda_set_downstream: above 14,336 or no multiple of 4 */
+
+/* Every function returns one number, which these take apart. */
+
+/* One of the numbers above. */
+static inline unsigned hda_number(uint64_t reply) { return (unsigned)(reply & 0xff); }
+
+/* The INTx level that the call left. 0 from calls on the host end alone, which leave it as it was, and where the bytes are no record. */
+static inline int hda_level(uint64_t reply) { return (int)(reply >> 8 & 1); }
+
+/* Whether a message (MSI) is to be sent now: hda_message_address and hda_message_data of the device record as the call left it. */
+static inline int hda_sends_message(uint64_t reply) { return (int)(reply >> 9 & 1); }
+
+/* Frames moved (hda_feed, hda_pull), bytes written (hda_save), or the register (hda_config_read); else 0. */
+static inline uint32_t hda_value(uint64_t reply) { return (uint32_t)(reply >> 32); }
+
+static inline uint64_t hda_message_address(const uint8_t device[HDA_DEVICE_BYTES])
+{
+    uint64_t address = 0;
+    for (int i = 7; i >= 0; i--)
+        address = address << 8 | device[6 + 0x64 + i];
+    return address;
+}
+
+static inline uint32_t hda_message_data(const uint8_t device[HDA_DEVICE_BYTES])
+{
+    return (uint32_t)device[6 + 0x6c] | (uint32_t)device[6 + 0x6d] << 8;
+}
+
+/* Calls that make a record, whatever its bytes were before. HDA_LENT_SPACE for short lists or queues, then HDA_STATE for another length of the record. */
+
+/* A new device. A microphone other than 0 is there. */
+uint64_t hda_new(uint8_t *device, size_t device_length, const uint8_t *lists, size_t lists_length, const uint8_t *queues, size_t queues_length, uint32_t microphone);
+
+/* A new host end: openings succeed, downstream 0, both streams closed. */
+uint64_t hda_host_new(uint8_t *host, size_t host_length, const uint8_t *queues, size_t queues_length);
+
+/* Calls on the device. Before anything else HDA_LENT_SPACE for short lists or queues, then HDA_STATE for the records. */
+
+/* `nanos` nanoseconds of unpaused time pass: the clock runs, waiting commands are carried out, running streams move what is due. */
+uint64_t hda_advance(uint8_t *device, size_t device_length, uint8_t *host, size_t host_length, uint8_t *lists, size_t lists_length, uint8_t *queues,
+                     size_t queues_length, uint8_t *memory, size_t memory_length, uint64_t nanos);
+
+/* Registers from `offset` on into all of `into`; what is no register reads 0. */
+uint64_t hda_read(const uint8_t *device, size_t device_length, const uint8_t *host, size_t host_length, const uint8_t *lists, size_t lists_length,
+                  const uint8_t *queues, size_t queues_length, uint64_t offset, uint8_t *into, size_t into_length);
+
+/* A guest's write of `bytes` to the registers from `offset` on; bytes at no register are dropped. */
+uint64_t hda_write(uint8_t *device, size_t device_length, uint8_t *host, size_t host_length, const uint8_t *lists, size_t lists_length, const uint8_t *queues,
+                   size_t queues_length, uint8_t *memory, size_t memory_length, uint64_t offset, const uint8_t *bytes, size_t bytes_length);
+
+/* The same two at base address register `bar`: 0 has the registers, any other reads 0 and drops writes. */
+uint64_t hda_bar_read(const uint8_t *device, size_t device_length, const uint8_t *host, size_t host_length, const uint8_t *lists, size_t lists_length,
+                      const uint8_t *queues, size_t queues_length, uint32_t bar, uint64_t offset, uint8_t *into, size_t into_length);
+uint64_t hda_bar_write(uint8_t *device, size_t device_length, uint8_t *host, size_t host_length, const uint8_t *lists, size_t lists_length, const uint8_t *queues,
+                       size_t queues_length, uint8_t *memory, size_t memory_length, uint32_t bar, uint64_t offset, const uint8_t *bytes, size_t bytes_length);
+
+/* The four bytes of configuration register `register_index`, as hda_value; 0 from 64 on. */
+uint64_t hda_config_read(const uint8_t *device, size_t device_length, const uint8_t *host, size_t host_length, const uint8_t *lists, size_t lists_length,
+                         const uint8_t *queues, size_t queues_length, uint64_t register_index);
+
+/* A write of `bytes` to the configuration, from byte `offset` of a register on. */
+uint64_t hda_config_write(uint8_t *device, size_t device_length, const uint8_t *host, size_t host_length, const uint8_t *lists, size_t lists_length,
+                          const uint8_t *queues, size_t queues_length, uint8_t *memory, size_t memory_length, uint64_t register_index, uint64_t offset,
+                          const uint8_t *bytes, size_t bytes_length);
+
+/* Something was plugged in or out at pin `node` (3 or 5; others have none). */
+uint64_t hda_pin_presence_changed(uint8_t *device, size_t device_length, const uint8_t *host, size_t host_length, const uint8_t *lists, size_t lists_length,
+                                  const uint8_t *queues, size_t queues_length, uint8_t *memory, size_t memory_length, uint32_t node);
+
+/* While paused (other than 0) streams and clock stand still. */
+uint64_t hda_set_paused(uint8_t *device, size_t device_length, const uint8_t *host, size_t host_length, const uint8_t *lists, size_t lists_length,
+                        const uint8_t *queues, size_t queues_length, uint32_t paused);
+
+/* The saved state into the first hda_value bytes of `into`; the rest stays. HDA_LENT_SPACE too where `into` has fewer than 748 + 8 for each pending position. */
+uint64_t hda_save(const uint8_t *device, size_t device_length, const uint8_t *host, size_t host_length, const uint8_t *lists, size_t lists_length,
+                  const uint8_t *queues, size_t queues_length, uint8_t *into, size_t into_length);
+
+/* Calls of the host's sound driver, on the host end alone. Before anything else HDA_LENT_SPACE for short queues, then HDA_STATE for the record. */
+
+/* Frames for capture, as many as fit; hda_value frames were taken. A closed stream takes none. */
+uint64_t hda_feed(uint8_t *host, size_t host_length, uint8_t *queues, size_t queues_length, const uint8_t *frames, size_t frames_length);
+
+/* Frames of playback, as many as there are, into the start of `into`; hda_value frames were given. The rest stays. */
+uint64_t hda_pull(uint8_t *host, size_t host_length, uint8_t *queues, size_t queues_length, uint8_t *into, size_t into_length);
+
+/* Whether openings for playback, or for capture, fail from now on (other than 0). */
+uint64_t hda_set_playback_fails(uint8_t *host, size_t host_length, const uint8_t *queues, size_t queues_length, uint32_t fails);
+uint64_t hda_set_capture_fails(uint8_t *host, size_t host_length, const uint8_t *queues, size_t queues_length, uint32_t fails);
+
+/* How many bytes of playback the host holds that left the queue and are not heard yet. */
+uint64_t hda_set_downstream(uint8_t *host, size_t host_length, const uint8_t *queues, size_t queues_length, uint32_t bytes);
+
+#ifdef __cplusplus
+}
+#endif
+
+#endif

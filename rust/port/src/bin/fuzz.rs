@@ -1,0 +1,269 @@
+//! fuzz SEED ROUNDS: calls of any kind in any order on bytes of any length and content, most of them near a valid machine's.
+//!
+//! After each call: the number is one that document 01 gives here, 9 and 10 exactly where its conditions say so; a refusal has changed no byte; a machine that a call
+//! accepted is still valid. Round R of a seed is round 0 of seed + R. That a call returns is seen by the run's end.
+use port::any::{Call, Handed, Lent, is_valid_downstream};
+use port::layout::{DEVICE, HOST, LIST, LISTS, MAX_STATE, POSITIONS, QUEUES, STATE, STREAMS, device, get, host, put, stream};
+use port::{Machine, Reply, number};
+use random::Random;
+use std::collections::BTreeMap;
+use std::process::ExitCode;
+
+/// Calls of a round.
+const CALLS: usize = 40;
+
+fn main() -> ExitCode {
+    let words: Vec<Option<u64>> = std::env::args().skip(1).map(|word| word.parse().ok()).collect();
+    let [Some(seed), Some(rounds)] = words[..] else {
+        eprintln!("fuzz SEED ROUNDS");
+        return ExitCode::from(2);
+    };
+    let mut seen = BTreeMap::new();
+    for round in 0..rounds {
+        if let Err(error) = play(seed.wrapping_add(round), &mut seen) {
+            println!("fuzz {} 1: {error}", seed.wrapping_add(round));
+            return ExitCode::FAILURE;
+        }
+    }
+    for (name, count) in &seen {
+        println!("{count:>9}  {name}");
+    }
+    println!("{rounds} rounds, {} calls", seen.values().sum::<u64>());
+    ExitCode::SUCCESS
+}
+
+/// One round: a machine, and calls on it, with bytes changed between them.
+fn play(seed: u64, seen: &mut BTreeMap<String, u64>) -> Result<(), String> {
+    let mut random = Random::new(seed);
+    let mut lent = start(&mut random);
+    for _ in 0..CALLS {
+        if random.percent(15) {
+            disturb(&mut random, &mut lent);
+        }
+        let call = call(&mut random);
+        refill(&mut random, &mut lent, call);
+        // The call gets a copy, whose allocations end where the bytes end: a memory checker then sees an access beyond.
+        let before = lent.clone();
+        let before = std::mem::replace(&mut lent, before);
+        let reply = call.make(&mut lent);
+        let name = format!("{:?} gave {}", call.handed(), reply.number());
+        *seen.entry(name).or_default() += 1;
+        check(call, reply, &before, &lent).map_err(|error| format!("{call:?} returned {:#x}: {error}", reply.0))?;
+    }
+    Ok(())
+}
+
+fn check(call: Call, reply: Reply, before: &Lent, after: &Lent) -> Result<(), String> {
+    let is = |holds: bool, what: &str| if holds { Ok(()) } else { Err(what.to_string()) };
+    is(reply.0 >> 10 & 0x3f_ffff == 0, "a bit that means nothing is set")?;
+    is(reply.number() == expected(call, before, reply), "not the number of document 01")?;
+    let (number, handed) = (reply.number(), call.handed());
+    let accepted = number == number::DONE || number == number::HOST_CLOSED;
+    is(accepted || before == after, "a refusal changed a byte")?;
+    is(accepted || !reply.sends() && reply.value() == 0, "a refusal sends a message or has a value")?;
+    is(!reply.level() || handed == Handed::Machine && before.are_records(), "a level without a device")?;
+    is(!reply.sends() || handed == Handed::Machine, "a message without a device")?;
+    let most = match call {
+        Call::Feed | Call::Pull => before.buffer.len() / 4,
+        Call::Save => before.buffer.len(),
+        Call::ConfigRead(_) => u32::MAX as usize,
+        _ => 0,
+    };
+    is(reply.value() as usize <= most, "a value that cannot be")?;
+    is(
+        !accepted || handed == Handed::NewDevice || handed == Handed::NewHost || after.refusal(handed).is_none(),
+        "the machine is no longer valid",
+    )?;
+    is(before.device.len() == after.device.len() && before.memory.len() == after.memory.len(), "a length changed")
+}
+
+/// The number that document 01 gives. Only `advance` may be refused by the host, which depends on too much to be said here.
+fn expected(call: Call, before: &Lent, reply: Reply) -> u8 {
+    if let Some(number) = before.refusal(call.handed()) {
+        return number;
+    }
+    match call {
+        Call::Advance(_) if reply.number() == number::HOST_CLOSED => number::HOST_CLOSED,
+        Call::Feed | Call::Pull if !before.buffer.len().is_multiple_of(4) => number::ODD_FRAMES,
+        Call::SetDownstream(bytes) if !is_valid_downstream(u64::from(bytes)) => number::LATENCY,
+        Call::Save if before.buffer.len() < saved_bytes(before) => number::LENT_SPACE,
+        _ => number::DONE,
+    }
+}
+
+fn saved_bytes(lent: &Lent) -> usize {
+    STATE + (0..STREAMS).map(|index| 8 * get::<4>(&lent.device, device::stream(index) + stream::PENDING) as usize).sum::<usize>()
+}
+
+/// A machine near a valid one, or any bytes.
+fn start(random: &mut Random) -> Lent {
+    let memory = random.pick(&[0, 1, 15, 4096, 4100, 20_000, 65_536]);
+    let mut lent = Lent::of(&Machine::new(random.flag()), memory, 0);
+    random.fill(&mut lent.memory);
+    // Descriptors and commands that lead somewhere: low addresses, short lengths.
+    for word in lent.memory.chunks_exact_mut(16).step_by(3) {
+        put::<8>(word, 0, random.below(memory as u64 + 64));
+        put::<4>(word, 8, random.pick(&[4, 8, 64, 1024, 6]));
+    }
+    if random.percent(10) {
+        random.fill(&mut lent.device);
+        random.fill(&mut lent.host);
+        random.fill(&mut lent.lists);
+    }
+    if random.percent(85) {
+        // Bus mastering, without which nothing moves.
+        lent.buffer = vec![6];
+        Call::ConfigWrite(1, 0).make(&mut lent);
+    }
+    for _ in 0..random.below(40) {
+        let (offset, width, value) = driver_write(random, memory as u64);
+        lent.buffer = value.to_le_bytes()[..width].to_vec();
+        Call::Write(offset).make(&mut lent);
+    }
+    if random.percent(60) {
+        lay_streams(random, &mut lent);
+    }
+    lent
+}
+
+/// A register write that a driver might make.
+fn driver_write(random: &mut Random, memory: u64) -> (u64, usize, u64) {
+    let (stream, address, any) = (0x80 + 32 * random.below(2), random.below(memory + 256) & !127, random.next_u64());
+    let unsolicited = 0x0037_0880 | any & 63;
+    let command = random.pick(&[0x000f_0000, 0x0027_0620, 0x0022_0011, unsolicited]);
+    let cyclic = random.pick(&[64, 1024, 1028, 6, 0]);
+    let format = random.pick(&[0x0011, 0x4011, 0x0811, 0]);
+    random.pick(&[
+        (8, 4, 0x101),
+        (8, 4, any & 3),
+        (0x20, 4, 0xc000_0003),
+        (0x40, 8, address),
+        (0x48, 2, any & 255),
+        (0x4a, 2, 0),
+        (0x4c, 1, 3),
+        (0x50, 8, address),
+        (0x5a, 2, any & 3),
+        (0x5c, 1, 7),
+        (0x60, 4, command),
+        (0x68, 1, 1),
+        (0x70, 8, address | 1),
+        (stream, 1, 6),
+        (stream, 1, 0x1e),
+        (stream, 1, any & 31),
+        (stream + 2, 1, any),
+        (stream + 8, 4, cyclic),
+        (stream + 0xc, 1, any & 7),
+        (stream + 0x12, 2, format),
+        (stream + 0x18, 8, address),
+        (any >> 56, 4, any),
+    ])
+}
+
+/// Counts and positions, mostly such as a stream can have; RUN and the host's opening may contradict each other.
+fn lay_streams(random: &mut Random, lent: &mut Lent) {
+    if lent.device.len() != DEVICE || lent.lists.len() < LISTS || lent.host.len() != HOST {
+        return;
+    }
+    for index in 0..STREAMS {
+        let numbers = device::stream(index);
+        let count = random.weighted(&[(6, 0), (6, 3), (3, 200), (1, POSITIONS as u64), (1, POSITIONS as u64 + 1)]);
+        let small = random.below(100_000);
+        let base = random.weighted(&[(6, 0), (3, small), (1, u64::MAX - 5000)]);
+        put::<8>(&mut lent.device, numbers + stream::CONSUMED, base);
+        put::<8>(&mut lent.device, numbers + stream::SUBMITTED, base.saturating_add(count + random.below(30)));
+        put::<4>(&mut lent.device, numbers + stream::PENDING, count);
+        for place in 0..count.min(POSITIONS as u64) {
+            put::<8>(&mut lent.lists, LIST * index + 8 * place as usize, base.saturating_add(place + 1));
+        }
+        if random.percent(20) {
+            lent.host[host::open(index)] ^= 1;
+        }
+        if random.percent(20) {
+            // Closed, with openings that fail: `advance` refuses it where the stream runs.
+            lent.host[host::open(index)] = 0;
+            lent.host[host::PLAYBACK_FAILS] = 1;
+            lent.host[host::CAPTURE_FAILS] = 1;
+        }
+        let length = random.pick(&[0, 4, 1024, 2044, 2048, 2052, 3]);
+        if random.percent(30) && lent.host[host::open(index)] == 1 {
+            put::<4>(&mut lent.host, host::length(index), length);
+        }
+    }
+}
+
+/// One byte, one number or one length, anywhere; or everything put right again.
+fn disturb(random: &mut Random, lent: &mut Lent) {
+    match random.below(9) {
+        0..3 => {
+            let parts = [&mut lent.device, &mut lent.host, &mut lent.lists, &mut lent.queues, &mut lent.memory];
+            let part = random.below(5) as usize;
+            for (place, bytes) in parts.into_iter().enumerate() {
+                if place == part && !bytes.is_empty() {
+                    let at = random.below(bytes.len() as u64) as usize;
+                    bytes[at] = random.pick(&[0, 1, 2, 255, bytes[at] ^ 1]);
+                }
+            }
+        }
+        3 => lay_streams(random, lent),
+        4 => {
+            let length = random.pick(&[0, 15, 17, 16]);
+            lent.host.resize(length, 0);
+        }
+        5 => {
+            let length = random.pick(&[0, 748, 750, 749]);
+            lent.device.resize(length, 0);
+        }
+        6 => {
+            let (lists, queues) =
+                (random.pick(&[LISTS, LISTS, LISTS - 1, LISTS + 1, 0]), random.pick(&[QUEUES, QUEUES, QUEUES - 1, QUEUES + 1, 0]));
+            lent.lists.resize(lists, 0);
+            lent.queues.resize(queues, 0);
+        }
+        _ => {
+            let memory = std::mem::take(&mut lent.memory);
+            *lent = Lent { memory, ..Lent::of(&Machine::new(true), 0, 0) };
+        }
+    }
+}
+
+fn call(random: &mut Random) -> Call {
+    let (place, any) = (random.below(0x110), random.next_u64());
+    let offset = random.weighted(&[(8, place), (1, any), (1, u64::MAX - (any & 3)), (1, 0x2084)]);
+    let bar = random.pick(&[0, 0, 0, 1, u32::MAX]);
+    let register = random.pick(&[0, 1, 4, 24, 25, 63, 64, any, u64::MAX / 4 + 1]);
+    let nanos = random.pick(&[0, 1, 20_833, 1_000_000, 5_333_334, 1_000_000_000, u64::MAX, any]);
+    let downstream = random.pick(&[0, 4, 14_336, 14_340, 2, any as u32]);
+    let (inside, node) = (random.pick(&[0, 1, 2, 4, u64::MAX]), random.pick(&[3, 5, 0, 259, u32::MAX]));
+    random.weighted(&[
+        (1, Call::New(any & 1 != 0)),
+        (1, Call::HostNew),
+        (12, Call::Advance(nanos)),
+        (3, Call::Read(offset)),
+        (12, Call::Write(offset)),
+        (2, Call::BarRead(bar, offset)),
+        (3, Call::BarWrite(bar, offset)),
+        (2, Call::ConfigRead(register)),
+        (4, Call::ConfigWrite(register, inside)),
+        (2, Call::PinPresenceChanged(node)),
+        (1, Call::SetPaused(any & 7 == 0)),
+        (3, Call::Save),
+        (5, Call::Feed),
+        (5, Call::Pull),
+        (1, Call::SetPlaybackFails(any & 3 == 0)),
+        (1, Call::SetCaptureFails(any & 3 == 0)),
+        (2, Call::SetDownstream(downstream)),
+    ])
+}
+
+/// A buffer for the call: of any length, for a save mostly about what it needs.
+fn refill(random: &mut Random, lent: &mut Lent, call: Call) {
+    let length = match call {
+        Call::Save if lent.refusal(Handed::Machine).is_none() => {
+            let needed = saved_bytes(lent);
+            random.pick(&[needed, needed + 1, needed - 1, MAX_STATE, 0])
+        }
+        Call::Feed | Call::Pull => random.pick(&[0, 3, 4, 400, 2048, 2052, 4095]),
+        _ => random.pick(&[0, 1, 1, 2, 4, 4, 4, 8, 17, 64, 300]),
+    };
+    lent.buffer = random.bytes(length);
+}

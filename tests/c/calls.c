@@ -1,0 +1,160 @@
+/* Calls every function of include/hda.h from C and checks a few answers: frames played and captured, a message sent, an opening refused, a state saved. */
+#include "hda.h"
+#include <stdio.h>
+#include <string.h>
+
+static uint8_t device[HDA_DEVICE_BYTES], host[HDA_HOST_BYTES], lists[HDA_LISTS_BYTES], queues[HDA_QUEUES_BYTES], memory[65536];
+static uint8_t state[HDA_STATE_BYTES_MAX];
+
+#define RECORDS device, sizeof device, host, sizeof host, lists, sizeof lists, queues, sizeof queues
+#define HOST host, sizeof host, queues, sizeof queues
+
+static int checks, failures;
+
+static void check(int line, const char *what, uint64_t found, uint64_t expected)
+{
+    checks++;
+    if (found == expected)
+        return;
+    failures++;
+    fprintf(stderr, "calls.c:%d: %s is %llu, not %llu\n", line, what, (unsigned long long)found, (unsigned long long)expected);
+}
+
+#define CHECK(found, expected) check(__LINE__, #found, (uint64_t)(found), (uint64_t)(expected))
+
+/* The low `width` bytes of a value to the registers. */
+static uint64_t write_register(uint64_t offset, uint64_t value, size_t width)
+{
+    uint8_t bytes[8];
+    for (size_t i = 0; i < width; i++)
+        bytes[i] = (uint8_t)(value >> 8 * i);
+    return hda_write(RECORDS, memory, sizeof memory, offset, bytes, width);
+}
+
+static uint64_t read_register(uint64_t offset, size_t width)
+{
+    uint8_t bytes[8] = {0};
+    CHECK(hda_number(hda_read(RECORDS, offset, bytes, width)), HDA_DONE);
+    uint64_t value = 0;
+    for (size_t i = width; i > 0; i--)
+        value = value << 8 | bytes[i - 1];
+    return value;
+}
+
+/* A stream's descriptor list at `list`: one flagged buffer of 1,024 bytes at `buffer`. Then its registers, and RUN with interrupts on completion. */
+static uint64_t start(unsigned stream, uint32_t list, uint32_t buffer)
+{
+    uint64_t base = 0x80 + 32 * stream;
+    uint8_t descriptor[16] = {(uint8_t)buffer, (uint8_t)(buffer >> 8), 0, 0, 0, 0, 0, 0, 0, 4, 0, 0, 1};
+    memcpy(memory + list, descriptor, sizeof descriptor);
+    write_register(base + 0x12, 0x0011, 2);
+    write_register(base + 0x08, 1024, 4);
+    write_register(base + 0x18, list, 8);
+    write_register(base + 0x02, (stream + 1) << 4, 1);
+    return write_register(base, 6, 1);
+}
+
+/* A command to the codec by the immediate registers; its reply. */
+static uint64_t command(uint32_t word)
+{
+    write_register(0x60, word, 4);
+    write_register(0x68, 1, 1);
+    return read_register(0x64, 4);
+}
+
+static void made(void)
+{
+    CHECK(hda_number(hda_new(device, sizeof device, lists, sizeof lists - 1, queues, sizeof queues, 1)), HDA_LENT_SPACE);
+    CHECK(hda_number(hda_new(device, sizeof device - 1, lists, sizeof lists, queues, sizeof queues, 1)), HDA_STATE);
+    CHECK(hda_number(hda_config_read(RECORDS, 0)), HDA_STATE);
+    CHECK(hda_new(device, sizeof device, lists, sizeof lists, queues, sizeof queues, 1), HDA_DONE);
+    CHECK(hda_host_new(HOST), HDA_DONE);
+    CHECK(hda_value(hda_config_read(RECORDS, 0)), 0x293e8086);
+    CHECK(hda_value(hda_config_read(RECORDS, 64)), 0);
+}
+
+static void played(void)
+{
+    uint8_t command_bytes[] = {6}, vector[] = {0xe0, 0xfe, 0, 0, 0, 0, 0, 0, 0x41, 0x40}, on[] = {1}, frames[2048];
+    memset(frames, 7, sizeof frames);
+    CHECK(hda_number(hda_config_write(RECORDS, memory, sizeof memory, 1, 0, command_bytes, 1)), HDA_DONE);
+    CHECK(hda_number(hda_config_write(RECORDS, memory, sizeof memory, 0x64 / 4, 0, vector, sizeof vector)), HDA_DONE);
+    CHECK(hda_number(hda_config_write(RECORDS, memory, sizeof memory, 0x60 / 4, 2, on, 1)), HDA_DONE);
+    write_register(0x08, 0x101, 4);
+    write_register(0x20, 0xc0000003, 4);
+    CHECK(command(0x000f0000), 0x1af40022);
+    /* Node 2 plays stream tag 2, node 4 captures tag 1, both at 48,000 and unity gain. */
+    CHECK(command(0x00270620), 0);
+    CHECK(command(0x00220011), 0);
+    CHECK(command(0x0023b04a), 0);
+    CHECK(command(0x00470610), 0);
+    CHECK(command(0x00420011), 0);
+    CHECK(command(0x0043704a), 0);
+    memset(memory + 0x1000, 0x5a, 1024);
+    memset(memory + 0x2000, 0xff, 1024);
+    start(0, 0x400, 0x2000);
+    start(1, 0x500, 0x1000);
+    CHECK(hda_value(hda_feed(HOST, frames, 16)), 4);
+    CHECK(hda_number(hda_feed(HOST, frames, 15)), HDA_ODD_FRAMES);
+
+    /* 256 frames at 48,000 are 5,333,334 nanoseconds: capture wraps its buffer and completes, which sends the message. */
+    uint64_t reply = hda_advance(RECORDS, memory, sizeof memory, 5333334);
+    CHECK(hda_number(reply), HDA_DONE);
+    CHECK(hda_level(reply), 0);
+    CHECK(hda_sends_message(reply), 1);
+    CHECK(hda_message_address(device), 0xfee0);
+    CHECK(hda_message_data(device), 0x4041);
+    CHECK(read_register(0x83, 1), 0x24);
+    CHECK(memory[0x2000 + 15], 7);
+    CHECK(memory[0x2000 + 16], 0);
+    CHECK(memory[0x2000 + 1023], 0);
+    CHECK(hda_value(hda_pull(HOST, frames, sizeof frames)), 256);
+    CHECK(frames[0], 0x5a);
+    CHECK(frames[1023], 0x5a);
+    CHECK(hda_value(hda_pull(HOST, frames, sizeof frames)), 0);
+    /* What was pulled is heard: the next turn retires the playback's completion. */
+    CHECK(hda_number(hda_advance(RECORDS, memory, sizeof memory, 0)), HDA_DONE);
+    CHECK(read_register(0xa3, 1), 0x24);
+    /* Without messages the interrupt is a level. */
+    on[0] = 0;
+    CHECK(hda_level(hda_config_write(RECORDS, memory, sizeof memory, 0x60 / 4, 2, on, 1)), 1);
+    CHECK(hda_level(write_register(0x83, 4, 1)), 1);
+    CHECK(hda_level(write_register(0xa3, 4, 1)), 0);
+}
+
+static void refused(void)
+{
+    CHECK(hda_number(hda_set_playback_fails(HOST, 1)), HDA_DONE);
+    CHECK(hda_number(hda_set_capture_fails(HOST, 1)), HDA_DONE);
+    CHECK(hda_number(hda_set_downstream(HOST, 14336)), HDA_DONE);
+    CHECK(hda_number(hda_set_downstream(HOST, 14340)), HDA_LATENCY);
+    write_register(0xa0, 0, 1);
+    write_register(0xa0, 2, 1);
+    CHECK(read_register(0xa0, 1), 0);
+    CHECK(read_register(0xa3, 1) & 0x10, 0x10);
+    uint8_t other[4] = {1, 1, 1, 1};
+    CHECK(hda_number(hda_bar_read(RECORDS, 1, 0, other, sizeof other)), HDA_DONE);
+    CHECK(other[0] | other[3], 0);
+    CHECK(hda_number(hda_bar_write(RECORDS, memory, sizeof memory, 0, 0x20, other, sizeof other)), HDA_DONE);
+    CHECK(read_register(0x20, 4), 0);
+    CHECK(hda_number(hda_pin_presence_changed(RECORDS, memory, sizeof memory, 3)), HDA_DONE);
+}
+
+static void saved(void)
+{
+    CHECK(hda_number(hda_set_paused(RECORDS, 1)), HDA_DONE);
+    CHECK(hda_number(hda_save(RECORDS, state, 747)), HDA_LENT_SPACE);
+    CHECK(state[0], 0);
+    CHECK(hda_value(hda_save(RECORDS, state, sizeof state)), 748);
+    CHECK(memcmp(state, "HDA1\1\1", 6), 0);
+}
+
+int main(void)
+{
+    made();
+    played();
+    refused();
+    saved();
+    printf("%d checks, %d failed\n", checks, failures);
+    return failures != 0;
+}
