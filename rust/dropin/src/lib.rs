@@ -1,0 +1,173 @@
+//! The proved device in the place of the Rust's `Hda`, behind the hypervisor's own traits: `BusDevice`, `PciDevice` and `AudioClock`.
+//!
+//! Two things differ for the hypervisor. The device calls no host backend: the host's sound driver feeds, pulls and sets through this type ([`Hda::feed`],
+//! [`Hda::pull`] and the three settings). And guest memory is one region from address 0 on, lent whole to each call.
+//!
+//! `Snapshot` is not implemented: it needs restore, which the port does not have yet. [`Hda::save_state`] is there.
+use port::{Answer, Machine, number};
+use reference::audio::AudioClock;
+use reference::{BarInfo, BarKind, BusDevice, DeviceError, GuestMemory, IrqLine, MsiMessage, MsiSink, PciDevice};
+use std::sync::Arc;
+use std::time::Duration;
+use vm_memory::{GuestAddress, GuestMemory as _, GuestMemoryRegion as _};
+
+/// An ICH9 HDA PCI function.
+pub struct Hda {
+    id: String,
+    machine: Machine,
+    memory: GuestMemory,
+    msi: Arc<dyn MsiSink>,
+    intx: Option<Arc<dyn IrqLine>>,
+}
+
+impl Hda {
+    /// A device at reset, with a host end at its start. Memory of several regions, or that does not start at address 0, is refused.
+    ///
+    /// # Safety
+    ///
+    /// While a method of the device runs, nothing else in this process may read or write the guest memory: the device has it as a `&mut [u8]`.
+    pub unsafe fn new(
+        id: impl Into<String>,
+        memory: GuestMemory,
+        msi: Arc<dyn MsiSink>,
+        intx: Option<Arc<dyn IrqLine>>,
+        microphone: bool,
+    ) -> Result<Self, DeviceError> {
+        if memory.num_regions() != 1 || memory.find_region(GuestAddress(0)).is_none() {
+            return Err(DeviceError::Memory("the HDA device needs guest memory in one region from address 0 on".into()));
+        }
+        if let Some(line) = &intx {
+            line.set_level(false);
+        }
+        Ok(Self { id: id.into(), machine: Machine::new(microphone), memory, msi, intx })
+    }
+
+    /// Makes a call that is lent guest memory.
+    fn with_memory(&mut self, call: impl FnOnce(&mut Machine, &mut [u8]) -> Answer) -> Answer {
+        let length = self.memory.find_region(GuestAddress(0)).map_or(0, |region| region.len() as usize);
+        let start = self.memory.get_host_address(GuestAddress(0)).expect("new has found the region");
+        // The mapping has that length and lives as long as self.memory; that nobody else uses it now is what `new` asks for.
+        let memory = unsafe { std::slice::from_raw_parts_mut(start, length) };
+        let answer = call(&mut self.machine, memory);
+        self.deliver(answer)
+    }
+
+    /// Drives the interrupt line, and sends the message if there is one.
+    fn deliver(&self, answer: Answer) -> Answer {
+        if let Some(line) = &self.intx {
+            line.set_level(answer.level);
+        }
+        if let Some(message) = answer.message {
+            self.msi.signal(MsiMessage { address: message.address, data: message.data });
+        }
+        answer
+    }
+
+    /// Service a machine timer interval. Longer than 2^64 - 1 nanoseconds counts as that.
+    pub fn advance(&mut self, elapsed: Duration) -> Result<(), DeviceError> {
+        let nanos = u64::try_from(elapsed.as_nanos()).unwrap_or(u64::MAX);
+        result(self.with_memory(|machine, memory| machine.advance(memory, nanos))).map(drop)
+    }
+
+    /// Freeze DMA, position and the wall clock.
+    pub fn set_paused(&mut self, paused: bool) {
+        let answer = self.machine.set_paused(paused);
+        self.deliver(answer);
+    }
+
+    /// Report a physical pin-presence change.
+    pub fn pin_presence_changed(&mut self, node: u8) {
+        self.with_memory(|machine, memory| machine.pin_presence_changed(memory, u32::from(node)));
+    }
+
+    /// Stable id of this device instance in the machine.
+    pub fn state_id(&self) -> String {
+        self.id.clone()
+    }
+
+    /// The saved state, in the Rust's own layout.
+    pub fn save_state(&self) -> Result<Vec<u8>, DeviceError> {
+        let (answer, state) = self.machine.saved();
+        result(answer).map(|_| state)
+    }
+}
+
+/// The host's sound driver's side. Frames are 4 bytes; the format is the stream's.
+impl Hda {
+    /// Captured frames for the guest, as many as fit; how many were taken.
+    pub fn feed(&mut self, frames: &[u8]) -> Result<usize, DeviceError> {
+        result(self.machine.feed(frames)).map(|answer| answer.value as usize)
+    }
+
+    /// Frames to play, as many as there are; how many were given. The rest of `into` stays.
+    pub fn pull(&mut self, into: &mut [u8]) -> Result<usize, DeviceError> {
+        result(self.machine.pull(into)).map(|answer| answer.value as usize)
+    }
+
+    /// Whether openings for playback fail.
+    pub fn set_playback_fails(&mut self, fails: bool) -> Result<(), DeviceError> {
+        result(self.machine.set_playback_fails(fails)).map(drop)
+    }
+
+    /// Whether openings for capture fail.
+    pub fn set_capture_fails(&mut self, fails: bool) -> Result<(), DeviceError> {
+        result(self.machine.set_capture_fails(fails)).map(drop)
+    }
+
+    /// How many bytes of playback the host holds that were pulled and are not heard yet.
+    pub fn set_downstream(&mut self, bytes: u32) -> Result<(), DeviceError> {
+        result(self.machine.set_downstream(bytes)).map(drop)
+    }
+}
+
+/// An answer whose number is 0, or the number as the hypervisor's error.
+fn result(answer: Answer) -> Result<Answer, DeviceError> {
+    let error = match answer.number {
+        number::DONE => return Ok(answer),
+        number::HOST_CLOSED => "host closed",
+        number::ODD_FRAMES => "no whole frames",
+        number::LATENCY => "latency out of range",
+        // 9 and 10: a machine that only calls have changed meets every condition and has its lengths.
+        _ => "invalid HDA device",
+    };
+    Err(DeviceError::Other(error.into()))
+}
+
+impl BusDevice for Hda {
+    fn read(&mut self, offset: u64, data: &mut [u8]) {
+        let answer = self.machine.read(offset, data);
+        self.deliver(answer);
+    }
+    fn write(&mut self, offset: u64, data: &[u8]) {
+        self.with_memory(|machine, memory| machine.write(memory, offset, data));
+    }
+}
+
+impl PciDevice for Hda {
+    fn config_read(&mut self, reg: usize) -> u32 {
+        let answer = self.machine.config_read(reg as u64);
+        self.deliver(answer).value
+    }
+    fn config_write(&mut self, reg: usize, offset: u64, data: &[u8]) {
+        self.with_memory(|machine, memory| machine.config_write(memory, reg as u64, offset, data));
+    }
+    fn bars(&self) -> Vec<BarInfo> {
+        vec![BarInfo { index: 0, size: 0x4000, kind: BarKind::Mmio32 }]
+    }
+    fn bar_read(&mut self, bar: u8, offset: u64, data: &mut [u8]) {
+        let answer = self.machine.bar_read(u32::from(bar), offset, data);
+        self.deliver(answer);
+    }
+    fn bar_write(&mut self, bar: u8, offset: u64, data: &[u8]) {
+        self.with_memory(|machine, memory| machine.bar_write(memory, u32::from(bar), offset, data));
+    }
+}
+
+impl AudioClock for Hda {
+    fn advance(&mut self, elapsed: Duration) -> Result<(), DeviceError> {
+        Hda::advance(self, elapsed)
+    }
+    fn set_paused(&mut self, paused: bool) {
+        Hda::set_paused(self, paused)
+    }
+}
