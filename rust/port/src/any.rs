@@ -83,14 +83,14 @@ fn is_valid_stream(numbers: &[u8], list: &[u8]) -> bool {
 fn is_valid_host(record: &[u8]) -> bool {
     let is_valid_queue = |index| {
         let length = get::<4>(record, host::length(index));
-        length <= QUEUE as u64 && length % 4 == 0 && (length == 0 || record[host::open(index)] == 1)
+        length <= QUEUE as u64 && length.is_multiple_of(4) && (length == 0 || record[host::open(index)] == 1)
     };
     is_host(record) && is_valid_downstream(get::<4>(record, host::DOWNSTREAM)) && (0..STREAMS).all(is_valid_queue)
 }
 
 /// Number 12's condition.
 pub fn is_valid_downstream(bytes: u64) -> bool {
-    bytes <= u64::from(MAX_DOWNSTREAM) && bytes % 4 == 0
+    bytes <= u64::from(MAX_DOWNSTREAM) && bytes.is_multiple_of(4)
 }
 
 /// A call with its numbers.
