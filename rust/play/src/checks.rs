@@ -1,0 +1,148 @@
+//! What must hold of a take.
+use crate::guest::FRAME;
+use crate::session::Take;
+
+/// One line of the summary.
+pub struct Check {
+    pub name: &'static str,
+    /// What was seen; or what is wrong.
+    pub result: Result<String, String>,
+}
+
+pub fn all(take: &Take) -> Vec<Check> {
+    [("commands", commands as fn(&Take) -> Result<String, String>), ("frames", frames), ("position", position), ("interrupts", interrupts)]
+        .map(|(name, check)| Check { name, result: check(take) })
+        .into()
+}
+
+fn commands(take: &Take) -> Result<String, String> {
+    if take.responses != take.commands {
+        return Err(format!("{} sent, {} responses", take.commands, take.responses));
+    }
+    Ok(format!("{} sent through the rings, each answered once, every setting read back", take.commands))
+}
+
+/// What the device read is what the guest put in, from the first frame on: the host got it, or it was still queued.
+fn frames(take: &Take) -> Result<String, String> {
+    let read = take.pulled.len() + take.queued.len();
+    let put = take.put.chunks(FRAME);
+    let got = take.pulled.chunks(FRAME).chain(take.queued.chunks(FRAME));
+    if let Some(at) = put.zip(got).position(|(put, got)| put != got) {
+        return Err(format!("frame {} is not the one that the guest put in", count(at)));
+    }
+    if read > take.put.len() {
+        return Err(format!("{} frames read, only {} put in", count(read / FRAME), count(take.put.len() / FRAME)));
+    }
+    if take.pulled.len() < take.sound {
+        return Err(format!("{} frames pulled, the drums have {}", count(take.pulled.len() / FRAME), count(take.sound / FRAME)));
+    }
+    if take.short != 0 {
+        return Err(format!("{} pulls found too few frames", take.short));
+    }
+    Ok(format!(
+        "{} pulled and {} still queued: each once, in order, bit for bit what the guest put in",
+        count(take.pulled.len() / FRAME),
+        count(take.queued.len() / FRAME)
+    ))
+}
+
+/// Each position is not before the last, and is what was pulled less what is not heard yet.
+fn position(take: &Take) -> Result<String, String> {
+    let mut last = 0;
+    for tick in &take.ticks {
+        let milliseconds = tick.time / 1_000_000;
+        let heard = tick.pulled.saturating_sub(take.host.downstream);
+        if tick.position < last {
+            return Err(format!("fell from byte {} to {} at {milliseconds} ms", count(last), count(tick.position)));
+        }
+        if tick.position != heard {
+            return Err(format!("byte {} at {milliseconds} ms, where {} were heard", count(tick.position), count(heard)));
+        }
+        last = tick.position;
+    }
+    Ok(format!("read {} times: never falls, always the frames heard so far; at the end {}", count(take.ticks.len()), count(last / FRAME)))
+}
+
+/// The nth completion interrupt is served with the position past the nth descriptor end and before the next, and none is left out.
+fn interrupts(take: &Take) -> Result<String, String> {
+    let period = take.ring.period;
+    for (before, (time, position)) in take.completions.iter().enumerate() {
+        if position / period != before + 1 {
+            return Err(format!("number {} at {} ms with {} descriptor ends passed", before + 1, time / 1_000_000, position / period));
+        }
+    }
+    let ends = take.ticks.last().map_or(0, |tick| tick.position / period);
+    if take.completions.len() != ends {
+        return Err(format!("{} completions, {} descriptor ends passed", take.completions.len(), ends));
+    }
+    if take.messages != take.completions.len() + take.responses {
+        return Err(format!("{} messages for {} completions and {} responses", take.messages, take.completions.len(), take.responses));
+    }
+    Ok(format!("{ends} descriptor ends passed, {ends} completions, one message each with the guest's address and data"))
+}
+
+/// A number with its thousands set apart.
+pub fn count(number: usize) -> String {
+    let digits = number.to_string();
+    let mut text = String::new();
+    for (place, digit) in digits.chars().enumerate() {
+        if place != 0 && (digits.len() - place).is_multiple_of(3) {
+            text.push(',');
+        }
+        text.push(digit);
+    }
+    text
+}
+
+#[cfg(test)]
+mod tests {
+    use super::*;
+    use crate::guest::Ring;
+    use crate::session::{Host, play};
+
+    fn take(period: usize, periods: usize, downstream: usize) -> Take {
+        // No two frames alike.
+        let sound: Vec<u8> = (1..20_000_u32).flat_map(u32::to_le_bytes).collect();
+        play(&sound, Ring { period, periods }, Host { frames: 256, first: 8_000_000, downstream }, |_| ()).unwrap()
+    }
+
+    fn failing(take: &Take) -> Vec<&'static str> {
+        all(take).into_iter().filter(|check| check.result.is_err()).map(|check| check.name).collect()
+    }
+
+    #[test]
+    fn takes_pass_with_rings_longer_than_what_is_read_ahead() {
+        for (period, periods, downstream) in [(3840, 5, 3840), (3840, 5, 0), (1920, 16, 14_336), (4800, 3, 1920)] {
+            assert_eq!(failing(&take(period, periods, downstream)), [""; 0]);
+        }
+    }
+
+    #[test]
+    fn a_ring_not_longer_than_what_is_read_ahead_is_read_again() {
+        assert_eq!(failing(&take(3840, 4, 14_336)), ["frames"]);
+    }
+
+    #[test]
+    fn what_is_wrong_is_seen() {
+        let wrong = |change: fn(&mut Take)| {
+            let mut take = take(3840, 5, 3840);
+            change(&mut take);
+            failing(&take)
+        };
+        assert_eq!(wrong(|take| take.pulled[40_000] ^= 1), ["frames"]);
+        assert_eq!(wrong(|take| _ = take.pulled.drain(40_000..40_004)), ["frames"]);
+        assert_eq!(wrong(|take| take.queued[1] ^= 1), ["frames"]);
+        assert_eq!(wrong(|take| take.pulled.truncate(40_000)), ["frames"]);
+        assert_eq!(wrong(|take| take.ticks[200].position -= 4), ["position"]);
+        assert_eq!(wrong(|take| _ = take.completions.remove(7)), ["interrupts"]);
+        assert_eq!(wrong(|take| take.completions.insert(7, take.completions[7])), ["interrupts"]);
+        assert_eq!(wrong(|take| _ = take.completions.pop()), ["interrupts"]);
+        assert_eq!(wrong(|take| take.messages += 1), ["interrupts"]);
+        assert_eq!(wrong(|take| take.responses -= 1), ["commands", "interrupts"]);
+    }
+
+    #[test]
+    fn thousands_are_set_apart() {
+        assert_eq!([0, 999, 1000, 1_234_567].map(count), ["0", "999", "1,000", "1,234,567"]);
+    }
+}
