@@ -1,9 +1,8 @@
-//! Links the proved leaves, which `rt staticlib leaves` builds.
+//! Links the proved leaves, which `rt staticlib leaves` builds, to the program that times them.
 use std::{env, path::PathBuf};
 
 fn main() {
-    let library = PathBuf::from(env::var_os("CARGO_MANIFEST_DIR").unwrap()).join("../../target/staticlib");
-    println!("cargo:rerun-if-changed={}", library.join("libleaves.a").display());
-    println!("cargo:rustc-link-search={}", library.display());
-    println!("cargo:rustc-link-lib=static=leaves");
+    let leaves = PathBuf::from(env::var_os("CARGO_MANIFEST_DIR").unwrap()).join("../../target/staticlib/libleaves.a");
+    println!("cargo:rerun-if-changed={}", leaves.display());
+    println!("cargo:rustc-link-arg-bin=bench={}", leaves.display());
 }

@@ -1,0 +1,218 @@
+//! The two devices behind the same calls, each with host end and guest memory.
+use port::Machine;
+use port::layout::MAX_STATE;
+use reference::audio::{AudioClock, AudioFormat, CaptureSource, HostAudio, PlaybackSink};
+use reference::hda::Hda;
+use reference::{DeviceError, GuestMemory, MsiMessage, MsiSink, PciDevice, Snapshot};
+use std::collections::VecDeque;
+use std::hint::black_box;
+use std::sync::atomic::{AtomicUsize, Ordering::Relaxed};
+use std::sync::{Arc, Mutex, MutexGuard};
+use std::time::Duration;
+use vm_memory::{GuestAddress, GuestMemory as _};
+
+const MEMORY: usize = 0x1_0000;
+const QUEUE: usize = 2048;
+
+pub trait Side {
+    fn new() -> Self;
+    fn advance(&mut self, nanos: u64);
+    fn read(&mut self, offset: u64, into: &mut [u8]);
+    fn write(&mut self, offset: u64, bytes: &[u8]);
+    fn config_read(&mut self, register: u64) -> u32;
+    fn config_write(&mut self, register: u64, offset: u64, bytes: &[u8]);
+    fn feed(&mut self, frames: &[u8]);
+    fn pull(&mut self, into: &mut [u8]);
+    fn set_downstream(&mut self, bytes: u32);
+    /// Saves as the side's caller would, and gives the length.
+    fn save(&mut self) -> usize;
+    fn saved(&mut self) -> Vec<u8>;
+    fn memory(&mut self) -> &mut [u8];
+    /// The bytes queued, for capture and for playback.
+    fn queues(&self) -> [Vec<u8>; 2];
+}
+
+pub struct Port {
+    machine: Machine,
+    memory: Vec<u8>,
+    state: Vec<u8>,
+}
+
+impl Side for Port {
+    fn new() -> Self {
+        Self { machine: Machine::new(true), memory: vec![0; MEMORY], state: vec![0; MAX_STATE] }
+    }
+    fn advance(&mut self, nanos: u64) {
+        assert_eq!(self.machine.advance(&mut self.memory, nanos).number, 0);
+    }
+    fn read(&mut self, offset: u64, into: &mut [u8]) {
+        assert_eq!(self.machine.bar_read(0, offset, into).number, 0);
+    }
+    fn write(&mut self, offset: u64, bytes: &[u8]) {
+        assert_eq!(self.machine.bar_write(&mut self.memory, 0, offset, bytes).number, 0);
+    }
+    fn config_read(&mut self, register: u64) -> u32 {
+        self.machine.config_read(register).value
+    }
+    fn config_write(&mut self, register: u64, offset: u64, bytes: &[u8]) {
+        assert_eq!(self.machine.config_write(&mut self.memory, register, offset, bytes).number, 0);
+    }
+    fn feed(&mut self, frames: &[u8]) {
+        assert_eq!(self.machine.feed(frames).number, 0);
+    }
+    fn pull(&mut self, into: &mut [u8]) {
+        assert_eq!(self.machine.pull(into).number, 0);
+    }
+    fn set_downstream(&mut self, bytes: u32) {
+        assert_eq!(self.machine.set_downstream(bytes).number, 0);
+    }
+    fn save(&mut self) -> usize {
+        self.machine.save(&mut self.state).value as usize
+    }
+    fn saved(&mut self) -> Vec<u8> {
+        self.machine.saved().1
+    }
+    fn memory(&mut self) -> &mut [u8] {
+        &mut self.memory
+    }
+    fn queues(&self) -> [Vec<u8>; 2] {
+        [0, 1].map(|index| self.machine.queue(index).to_vec())
+    }
+}
+
+/// Both host queues; these operations open each stream once.
+#[derive(Default)]
+struct Host {
+    queues: [Mutex<VecDeque<u8>>; 2],
+    downstream: AtomicUsize,
+}
+
+impl Host {
+    fn queue(&self, index: usize) -> MutexGuard<'_, VecDeque<u8>> {
+        self.queues[index].lock().unwrap()
+    }
+
+    /// As many bytes as there are.
+    fn take(&self, index: usize, into: &mut [u8]) -> usize {
+        let mut queue = self.queue(index);
+        let count = into.len().min(queue.len());
+        let (front, back) = queue.as_slices();
+        let first = count.min(front.len());
+        into[..first].copy_from_slice(&front[..first]);
+        into[first..count].copy_from_slice(&back[..count - first]);
+        queue.drain(..count);
+        count
+    }
+}
+
+struct Stream(Arc<Host>);
+
+impl PlaybackSink for Stream {
+    fn write_period(&mut self, pcm: &[u8]) {
+        self.0.queue(1).extend(pcm);
+    }
+    fn latency_bytes(&self) -> usize {
+        self.queued_bytes() + self.0.downstream.load(Relaxed)
+    }
+    fn queued_bytes(&self) -> usize {
+        self.0.queue(1).len()
+    }
+}
+
+impl CaptureSource for Stream {
+    fn read_period(&mut self, out: &mut [u8]) {
+        let count = self.0.take(0, out);
+        out[count..].fill(0);
+    }
+    fn latency_bytes(&self) -> usize {
+        self.0.queue(0).len()
+    }
+}
+
+struct Opener(Arc<Host>);
+
+impl HostAudio for Opener {
+    fn name(&self) -> &'static str {
+        "bench"
+    }
+    fn open_playback(&self, _: AudioFormat) -> Result<Box<dyn PlaybackSink>, DeviceError> {
+        Ok(Box::new(Stream(self.0.clone())))
+    }
+    fn open_capture(&self, _: AudioFormat) -> Result<Box<dyn CaptureSource>, DeviceError> {
+        Ok(Box::new(Stream(self.0.clone())))
+    }
+}
+
+struct NoMessages;
+
+impl MsiSink for NoMessages {
+    fn signal(&self, _: MsiMessage) {}
+}
+
+pub struct Rust {
+    device: Hda,
+    host: Arc<Host>,
+    memory: GuestMemory,
+}
+
+/// The device as the hypervisor has it: behind traits.
+impl Rust {
+    fn bus(&mut self) -> &mut dyn PciDevice {
+        black_box(&mut self.device)
+    }
+    fn clock(&mut self) -> &mut dyn AudioClock {
+        black_box(&mut self.device)
+    }
+    fn snapshot(&self) -> &dyn Snapshot {
+        black_box(&self.device)
+    }
+}
+
+impl Side for Rust {
+    fn new() -> Self {
+        let memory = GuestMemory::from_ranges(&[(GuestAddress(0), MEMORY)]).unwrap();
+        let host = Arc::new(Host::default());
+        let device = Hda::new("hda", memory.clone(), Arc::new(Opener(host.clone())), Arc::new(NoMessages), None, true);
+        Self { device, host, memory }
+    }
+    fn advance(&mut self, nanos: u64) {
+        self.clock().advance(Duration::from_nanos(nanos)).unwrap();
+    }
+    fn read(&mut self, offset: u64, into: &mut [u8]) {
+        self.bus().bar_read(0, offset, into);
+    }
+    fn write(&mut self, offset: u64, bytes: &[u8]) {
+        self.bus().bar_write(0, offset, bytes);
+    }
+    fn config_read(&mut self, register: u64) -> u32 {
+        self.bus().config_read(register as usize)
+    }
+    fn config_write(&mut self, register: u64, offset: u64, bytes: &[u8]) {
+        self.bus().config_write(register as usize, offset, bytes);
+    }
+    fn feed(&mut self, frames: &[u8]) {
+        let mut queue = self.host.queue(0);
+        let room = QUEUE - queue.len();
+        queue.extend(&frames[..frames.len().min(room)]);
+    }
+    fn pull(&mut self, into: &mut [u8]) {
+        self.host.take(1, into);
+    }
+    fn set_downstream(&mut self, bytes: u32) {
+        self.host.downstream.store(bytes as usize, Relaxed);
+    }
+    fn save(&mut self) -> usize {
+        self.saved().len()
+    }
+    fn saved(&mut self) -> Vec<u8> {
+        self.snapshot().save_state().unwrap()
+    }
+    fn memory(&mut self) -> &mut [u8] {
+        let start = self.memory.get_host_address(GuestAddress(0)).unwrap();
+        // The mapping lives as long as self.memory, and the device does not run while self is borrowed.
+        unsafe { std::slice::from_raw_parts_mut(start, MEMORY) }
+    }
+    fn queues(&self) -> [Vec<u8>; 2] {
+        [0, 1].map(|index| self.host.queue(index).iter().copied().collect())
+    }
+}

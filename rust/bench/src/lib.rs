@@ -1,0 +1,45 @@
+//! How two are timed against each other.
+
+/// This thread's CPU time in nanoseconds, which other work on the machine does not count into.
+pub fn cpu_time() -> u64 {
+    #[repr(C)]
+    struct Timespec {
+        seconds: i64,
+        nanoseconds: i64,
+    }
+    unsafe extern "C" {
+        fn clock_gettime(clock: i32, time: *mut Timespec) -> i32;
+    }
+    const CLOCK_THREAD_CPUTIME_ID: i32 = 3;
+    let mut time = Timespec { seconds: 0, nanoseconds: 0 };
+    unsafe { clock_gettime(CLOCK_THREAD_CPUTIME_ID, &mut time) };
+    time.seconds as u64 * 1_000_000_000 + time.nanoseconds as u64
+}
+
+/// Median times of the two, and the median of their quotients.
+pub struct Times {
+    pub rust: f64,
+    pub port: f64,
+    pub ratio: f64,
+}
+
+/// Rounds that take turns, so that a change of the machine's clock rate meets both.
+pub fn by_turns(rounds: usize, mut rust: impl FnMut() -> f64, mut port: impl FnMut() -> f64) -> Times {
+    let times: Vec<(f64, f64)> = (0..rounds).map(|_| (rust(), port())).collect();
+    let median_of = |part: fn(&(f64, f64)) -> f64| median(times.iter().map(part).collect());
+    Times { rust: median_of(|times| times.0), port: median_of(|times| times.1), ratio: median_of(|times| times.0 / times.1) }
+}
+
+pub fn median(mut times: Vec<f64>) -> f64 {
+    times.sort_by(f64::total_cmp);
+    times[times.len() / 2]
+}
+
+/// Bytes that look like noise, the same each time.
+pub fn noise<const N: usize>() -> [u8; N] {
+    let mut state = 12345_u32;
+    std::array::from_fn(|_| {
+        state = state.wrapping_mul(1_664_525).wrapping_add(1_013_904_223);
+        (state >> 24) as u8
+    })
+}
