@@ -112,7 +112,7 @@ mod tests {
 
     #[test]
     fn takes_pass_with_rings_longer_than_what_is_read_ahead() {
-        for (period, periods, downstream) in [(3840, 5, 3840), (3840, 5, 0), (1920, 16, 14_336), (4800, 3, 1920)] {
+        for (period, periods, downstream) in [(4800, 4, 3840), (4800, 4, 0), (4800, 4, 12_352), (1920, 16, 14_336), (4800, 3, 1920)] {
             assert_eq!(failing(&take(period, periods, downstream)), [""; 0]);
         }
     }
@@ -125,7 +125,7 @@ mod tests {
     #[test]
     fn what_is_wrong_is_seen() {
         let wrong = |change: fn(&mut Take)| {
-            let mut take = take(3840, 5, 3840);
+            let mut take = take(4800, 4, 3840);
             change(&mut take);
             failing(&take)
         };

@@ -14,8 +14,8 @@ use std::path::Path;
 use std::process::ExitCode;
 use std::{env, fs, io};
 
-/// 5 periods of 20 ms, as a Linux guest sets them up.
-const RING: Ring = Ring { period: 960 * FRAME, periods: 5 };
+/// 4 periods of 25 ms, the ring that a Linux driver was seen to set up.
+const RING: Ring = Ring { period: 1200 * FRAME, periods: 4 };
 /// Pulls of 256 frames; 20 ms between a pull and the ear.
 const HOST: Host = Host { frames: 256, first: 8_000_000, downstream: 960 * FRAME };
 
