@@ -244,7 +244,7 @@ fn start(svg: &mut String, take: &Take) {
         ring(svg, panel.x(seconds(*time)), panel.y(thousands(*position)), INTERRUPT);
     }
     panel.frame(svg);
-    panel.title(svg, "The start: the device reads ahead of the position, and never past what the guest has put in");
+    panel.title(svg, "The start: what the guest has put in, what the device has read of it, and the position that it reports");
     let tick = format!("machine time (ms); a tick of the timer every {} ms", TICK / 1_000_000);
     text(svg, (LEFT + RIGHT) / 2.0, 911.0, "middle", 12, &tick);
     let mut x = LEFT + 16.0;
