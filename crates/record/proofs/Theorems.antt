@@ -32,7 +32,7 @@ use Rattle.record.proofs.Sizes.{length-numbers, length-streams, length-
 -- ---- parts
 -- a stream whose numbers stand there, and the numbers of the stream that stands there
 module _ (b : List ℕ) (at : ℕ) where
-  stream-there : (s : Stream) → TypedStream s → (rest : List ℕ) → drop at b ≡ numbersOf s ++ rest → streamAt at b ≡ s
+  pub stream-there : (s : Stream) → TypedStream s → (rest : List ℕ) → drop at b ≡ numbersOf s ++ rest → streamAt at b ≡ s
   unfolding numbersOf
   stream-there s t rest e =
       rw (

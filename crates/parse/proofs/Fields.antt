@@ -1,0 +1,21 @@
+-- What holds where a field's or a run's bytes are there, and where the state ends before, holds of what follows it. Assumes nothing.
+use Prim.Native.Nat.{ℕ, _+_, _≤_}
+use mathlib.Core.List.{List}
+use borrow.Author.Tests.{leb-true}
+use lib.ListN.{length}
+use lib.Dec.{leb}
+use Rattle.word.specs.Place.{wordAt}
+use Rattle.queue.proofs.Tests.{by-cond}
+use Rattle.reader.specs.declared.Took.{Took}
+use Rattle.reader.specs.Fields.{fieldOf, runOf, thenOf}
+
+module _ (s : List ℕ) (at n : ℕ) {A : Type 0} (P : A → Type 0) (short : A) (rest : ℕ → ℕ → A) where
+  pub run-cases : (at + n ≤ length s → P (rest at (at + n))) → P short → P (thenOf (runOf s at n) short rest)
+  unfolding thenOf runOf
+  run-cases there cut =
+      by-cond (λ (t : Took). P (thenOf t short rest)) (leb (at + n) (length s)) _ _ (λ e. there (leb-true (at + n) (length s) e)) (λ e. cut)
+
+  pub field-cases : (at + n ≤ length s → P (rest (wordAt n at s) (at + n))) → P short → P (thenOf (fieldOf s at n) short rest)
+  unfolding thenOf fieldOf
+  field-cases there cut =
+      by-cond (λ (t : Took). P (thenOf t short rest)) (leb (at + n) (length s)) _ _ (λ e. there (leb-true (at + n) (length s) e)) (λ e. cut)

@@ -1,0 +1,192 @@
+-- Save and restore: which saved devices come back, and what of them does. Assumes nothing.
+use Prim.Native.Nat.{ℕ, zero, suc, _+_, _*_, _≤_, _<_}
+use mathlib.Core.Path.{_≡_, refl, sym, ap, _∙_}
+use mathlib.Core.Bool.{Bool, true, false, cond, and-false}
+use mathlib.Core.List.{List}
+use native.Mathlib.Omega.{arith}
+use borrow.Author.Tests.{leb-true, eqb-true}
+use lib.Dec.{eqb}
+use lib.ListN.{take, drop}
+use lib.Seq.{take-take}
+use Rattle.word.specs.Place.{putAt, wordAt, storeAt}
+use Rattle.word.specs.Each.{eachOf}
+use Rattle.word.specs.Parts.{partOf}
+use Rattle.clock.specs.declared.Clock.{Clock}
+use Rattle.codec.specs.Codecs as codec
+use Rattle.codec.specs.Codecs.{nodeAt}
+use Rattle.node.specs.Nodes as node
+use Rattle.format.specs.Hda.{pcmOf}
+use Rattle.format.specs.Format as format
+use Rattle.stream.specs.declared.Stream.{Stream}
+use Rattle.stream.specs.Streams as stream
+use Rattle.stream.specs.Box as box
+use Rattle.queue.specs.Queues.{queue}
+use Rattle.queue.proofs.Tests.{by-cond}
+use Rattle.host.specs.declared.Host.{Host}
+use Rattle.host.specs.Hosts as hosts
+use Rattle.registers.specs.Places.{ctl, fmt}
+use Rattle.registers.specs.Reset.{resetStreamOf, resetOf}
+use Rattle.rings.specs.declared.Link.{Link}
+use Rattle.device.specs.declared.Hda.{Hda}
+use Rattle.device.specs.Devices.{listSize, streamAt, freshOf}
+use Rattle.device.specs.Machines.{checkOf, finishOf}
+use Rattle.device.proofs.Checks.{Passed, device-parts, passed}
+use Rattle.device.proofs.Facts.{answer-number}
+use Rattle.record.specs.Devices.{flag}
+use Rattle.record.specs.Typed.{TypedDevice}
+use Rattle.record.proofs.Places.{flag-small, row-same}
+use Rattle.snapshot.specs.States.{stateOf, Kept}
+use Rattle.parse.specs.States.{placeOf, converterNumber, formatNumber, stateNumber}
+use Rattle.parse.proofs.Choices.{both-pass}
+use Rattle.parse.proofs.Theorems.{TakenStream, TakenLast, taken-head, taken-streams}
+use Rattle.restore.specs.Restores.{opensOf, streamOf, refusedFrom, openingNumber, restoredLists, restoredHost, restoredDevice, Restored, acceptedOf, numberOf, restoreStep, restoreOf}
+use Rattle.restore.specs.Returns.{wordNumber, streamNumber, Restorable, returnedDevice, returnedQueue, returnedHost}
+use Rattle.restore.proofs.Outcomes.{taken-fits}
+use Rattle.restore.proofs.Lists.{valid-same, restored-positions}
+use Rattle.restore.proofs.Takes.{state-takes}
+use Rattle.restore.proofs.Saves as saves
+use Rattle.restore.proofs.Theorems.{number-taken, block-identity}
+
+-- a host end whose switches are off refuses no opening
+none-refused : (n i : ℕ) (s : List ℕ) (microphone : Bool) (h : Host) → h .playback ≡ false → h .capture ≡ false → refusedFrom n i s microphone h ≡ false
+unfolding refusedFrom
+none-refused zero i s microphone h p c = refl
+none-refused (suc n) i s microphone h p c = rw (fails (box.captures i), and-false (opensOf s microphone i)) (none-refused n (i + 1) s microphone h p c)
+  where
+    fails : (b : Bool) → cond b (h .capture) (h .playback) ≡ false
+    fails true = c
+    fails false = p
+
+-- the saved device, and the one that takes its state
+module _ (saved : Hda) (h₀ : Host) (l₀ : List ℕ) (q₀ : ℕ) (t : TypedDevice saved) (check₀ : checkOf saved h₀ l₀ q₀ ≡ 0)
+    (d : Hda) (h : Host) (l : List ℕ) (q : ℕ) (check : checkOf d h l q ≡ 0) (same : d .microphone ≡ saved .microphone) where
+  abbrev s : List ℕ
+  s = stateOf saved l₀
+
+  p₀ : Passed saved h₀ l₀ q₀
+  p₀ = passed saved h₀ l₀ q₀ check₀
+
+  kept : Kept saved l₀
+  kept = record { few = p₀ .pending; long = p₀ .lists }
+
+  -- ---- the tests, as the device has them
+  converters-same : converterNumber s
+      ≡ cond (eqb (wordNumber (node.formatOf (nodeAt (saved .link .codec) 2))) 0) (wordNumber (node.formatOf (nodeAt (saved .link .codec) 4)))
+      (wordNumber (node.formatOf (nodeAt (saved .link .codec) 2)))
+  converters-same = rw (saves.node-format saved l₀ t kept 2 (omega arith), saves.node-format saved l₀ t kept 4 (omega arith))
+
+  format-same : (i : ℕ) → i < box.streams → formatNumber s i ≡ streamNumber saved i
+  unfolding formatNumber
+  format-same i few = rw (saves.register-word saved l₀ t kept 2 (fmt i) (omega arith), saves.register-byte saved l₀ t kept (ctl i) (omega arith))
+
+  last-saved : TakenLast s (d .config)
+  last-saved =
+      let v₀ = device-parts saved l₀ (p₀ .device) in
+      let v = device-parts d l (passed d h l q check .device) in
+      let link = saves.link-saved saved l₀ t kept in
+      let clock = saves.clock-saved saved l₀ t kept in
+      record {
+        paused = rw (saves.paused-byte saved l₀ t kept) (leb-true (flag (saved .paused)) 1 (flag-small (saved .paused)));
+        fraction = rw (ap (λ (c : Clock). c .fraction) clock) (v₀ .time);
+        responses = rw (ap (λ (x : Link). x .responses) link) (v₀ .responses);
+        identity = sym (block-identity s) ∙ ap (wordAt 4 0) (saves.config-saved saved l₀ t kept) ∙ v₀ .identified ∙ sym (v .identified);
+      }
+
+  stream-taken : (i : ℕ) → i < box.streams → streamNumber saved i ≡ 0 → TakenStream s i
+  stream-taken i few format =
+      let x = saves.stream-saved saved l₀ t kept i few in
+      let list : List ℕ = drop (placeOf s i + 34) s in
+      record {
+        room = omega (arith, x .room, ap (λ (y : Stream). y .pending) (x .stream));
+        valid = ap (λ (y : Stream). stream.validOf y list) (x .stream) ∙ valid-same (streamAt saved i) list (partOf listSize i l₀) (x .positions) ∙ p₀ .streams i few;
+        format = format-same i few ∙ format;
+      }
+
+  -- ---- a state is taken exactly where the formats are supported
+  pub saved-taken : Restorable saved → stateNumber s (d .microphone) (d .config) ≡ 0
+  saved-taken r =
+      state-takes s (d .microphone) (d .config)
+      (record {
+        long = saves.long-saved saved l₀ t kept;
+        marked = saves.marked-saved saved l₀ t kept;
+        own = saves.microphone-saved saved l₀ t kept ∙ ap flag (sym same);
+        converters = converters-same ∙ rw (r .output, r .input);
+      })
+      (λ i few. stream-taken i few (r .streams i few)) (saves.all-saved saved l₀ t kept) last-saved
+
+  pub taken-restorable : stateNumber s (d .microphone) (d .config) ≡ 0 → Restorable saved
+  taken-restorable z =
+      let c = both-pass (wordNumber (node.formatOf (nodeAt (saved .link .codec) 2))) (wordNumber (node.formatOf (nodeAt (saved .link .codec) 4)))
+      (sym converters-same ∙ taken-head s (d .microphone) (d .config) z .converters) in
+      record {
+        output = c .0;
+        input = c .1;
+        streams = λ i few. sym (format-same i few) ∙ taken-streams s (d .microphone) (d .config) z .1 i few .format;
+      }
+
+  -- ---- what comes back
+  device-back : restoredDevice s d ≡ returnedDevice saved d
+  unfolding restoredDevice returnedDevice
+  device-back =
+      rw (
+        saves.config-saved saved l₀ t kept,
+        saves.regs-saved saved l₀ t kept,
+        saves.link-saved saved l₀ t kept,
+        saves.clock-saved saved l₀ t kept,
+        saves.streams-saved saved l₀ t kept,
+        saves.paused-saved saved l₀ t kept,
+        same,
+      )
+
+  host-back : restoredHost s (d .microphone) h ≡ returnedHost saved h
+  unfolding returnedHost
+  host-back =
+      ap (hosts.host (h .playback) (h .capture) (h .downstream))
+      (row-same (λ (i : ℕ). queue (opensOf s (d .microphone) i) 0) (returnedQueue saved) box.streams
+      (λ i few. rw (saves.register-byte saved l₀ t kept (ctl i) (omega arith), same)) box.streams 0 (omega arith))
+
+  -- the answer, and each stream's positions in its part of the lists
+  pub record Back : Type 0 where
+    pub answer : restoreOf s d h l q .answer ≡ finishOf 0 (returnedDevice saved d) (returnedHost saved h)
+    pub positions : (i : ℕ) → i < box.streams
+        → take (8 * streamAt saved i .pending) (partOf listSize i (restoreOf s d h l q .lists)) ≡ take (8 * streamAt saved i .pending) (partOf listSize i l₀)
+
+  accepted : Restorable saved → h .playback ≡ false → h .capture ≡ false → restoreOf s d h l q ≡ acceptedOf s d h l
+  unfolding restoreOf restoreStep openingNumber
+  accepted r p c = rw (check, saved-taken r, none-refused box.streams 0 s (d .microphone) h p c)
+
+  pub save-restores : Restorable saved → h .playback ≡ false → h .capture ≡ false → Back
+  save-restores r p c =
+      let done = accepted r p c in
+      let fits = taken-fits s (d .microphone) (d .config) (saved-taken r) in
+      record {
+        answer = ap (λ (x : Restored). x .answer) done ∙ rw (device-back, host-back);
+        positions = λ i few.
+            let x = saves.stream-saved saved l₀ t kept i few in
+            let small : 8 * streamAt saved i .pending ≤ listSize = omega (arith, p₀ .pending i few) in
+            let count : streamOf s i .pending ≡ streamAt saved i .pending = ap (λ (y : Stream). y .pending) (x .stream) in
+            let own = rw count at (restored-positions s fits l (passed d h l q check .lists) i few) in
+            ap (λ (y : Restored). take (8 * streamAt saved i .pending) (partOf listSize i (y .lists))) done
+            ∙ take-take (8 * streamAt saved i .pending) listSize (drop (listSize * i) (restoredLists s l)) small
+            ∙ own
+            ∙ x .positions;
+      }
+
+  -- and no other device comes back
+  pub restores-only : restoreOf s d h l q .answer .number ≡ 0 → Restorable saved
+  unfolding restoreOf restoreStep
+  restores-only =
+      rw check
+      (by-cond (λ (r : Restored). r .answer .number ≡ 0 → Restorable saved) (eqb (numberOf s d h) 0) _ _
+      (λ e z. taken-restorable (number-taken s d h (eqb-true (numberOf s d h) 0 e)))
+      (λ e z. taken-restorable (number-taken s d h (sym (answer-number (numberOf s d h) _ d h) ∙ z))))
+
+-- a new device is one of them
+pub fresh-restorable : (microphone : Bool) → Restorable (freshOf microphone)
+unfolding freshOf codec.freshOf node.freshNodeOf resetOf resetStreamOf eachOf putAt storeAt wordAt format.formatOf pcmOf
+fresh-restorable microphone = record { output = refl; input = refl; streams = each }
+  where
+    each : (i : ℕ) → i < box.streams → streamNumber (freshOf microphone) i ≡ 0
+    each zero few = refl
+    each (suc zero) few = refl
+    each (suc (suc i)) few = absurd (omega arith)

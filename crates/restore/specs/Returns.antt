@@ -1,0 +1,50 @@
+-- What comes back of a device that was saved: which devices' states are taken, and what a device that takes one has of it.
+use Prim.Native.Nat.{ℕ, _<_}
+use mathlib.Core.Path.{_≡_}
+use mathlib.Core.Bool.{false, cond, not, _&&_, _||_}
+use lib.Dec.{eqb}
+use Rattle.word.specs.Place.{wordAt, storeAt}
+use Rattle.clock.specs.Clock.{shownOf}
+use Rattle.codec.specs.Codecs.{nodeAt}
+use Rattle.node.specs.Nodes as node
+use Rattle.format.specs.Format as format
+use Rattle.stream.specs.Box as box
+use Rattle.queue.specs.declared.Queue.{Queue}
+use Rattle.queue.specs.Queues.{queue}
+use Rattle.host.specs.declared.Host.{Host}
+use Rattle.host.specs.Hosts as hosts
+use Rattle.registers.specs.Places.{walclk, ctl, fmt, byteAt, has}
+use Rattle.device.specs.declared.Hda.{Hda}
+use Rattle.device.specs.Devices.{hda}
+use Rattle.record.specs.Rows.{rowOf}
+use Rattle.restore.specs.Restores.{laterOf}
+
+-- 5 for a format word that is not supported (document 01, "Numbers returned")
+abbrev pub wordNumber : ℕ → ℕ
+wordNumber w = format.numberOf (format.formatOf w)
+
+-- a stream whose format register is 0 and that does not run has no format
+abbrev pub streamNumber : Hda → ℕ → ℕ
+streamNumber d i =
+    let raw = wordAt 2 (fmt i) (d .regs) in
+    cond (eqb raw 0 && not (has 2 (byteAt (d .regs) (ctl i)))) 0 (wordNumber raw)
+
+-- the devices whose states are taken: both converters' formats and those of the streams are supported
+pub record Restorable (d : Hda) : Type 0 where
+  pub output : wordNumber (node.formatOf (nodeAt (d .link .codec) 2)) ≡ 0
+  pub input : wordNumber (node.formatOf (nodeAt (d .link .codec) 4)) ≡ 0
+  pub streams : (i : ℕ) → i < box.streams → streamNumber d i ≡ 0
+
+-- The saved device on one whose clock may be later. Behind it comes the end of every call, which brings register 0x24 and the interrupt bit of the configuration
+-- up to date.
+unfoldable pub returnedDevice : Hda → Hda → Hda
+returnedDevice saved d =
+    let c = laterOf (d .clock) (saved .clock) in
+    hda (saved .config) (storeAt 4 walclk (shownOf c) (saved .regs)) (saved .link) (saved .streams) c (saved .microphone) (saved .paused) false
+
+-- the host end: empty queues, open where the saved stream runs, an input only with a microphone
+abbrev pub returnedQueue : Hda → ℕ → Queue
+returnedQueue saved i = queue (has 2 (byteAt (saved .regs) (ctl i)) && (not (box.captures i) || saved .microphone)) 0
+
+unfoldable pub returnedHost : Hda → Host → Host
+returnedHost saved h = hosts.host (h .playback) (h .capture) (h .downstream) (rowOf (returnedQueue saved) box.streams 0)
