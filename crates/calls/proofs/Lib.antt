@@ -10,4 +10,5 @@ pub mod Driver
 pub mod Writes
 pub mod Calls
 pub mod Advance
+pub mod Restore
 pub mod Validity

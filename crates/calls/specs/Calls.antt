@@ -15,6 +15,7 @@ use Rattle.device.specs.Machines.{Machine, Done, machine, checkMachine}
 use Rattle.write.specs.Writes.{writeOf}
 use Rattle.hda.specs.Calls.{newOf, barWriteOf, configWriteOf, pinOf, pauseOf}
 use Rattle.advance.specs.Advance.{advanceOf}
+use Rattle.restore.specs.Restores.{Restored, restoreOf}
 
 pub data Call : Type 0 where
   -- nanoseconds
@@ -38,6 +39,8 @@ pub data Call : Type 0 where
   downstream : ℕ → Call
   -- the space lent for the state
   save : List ℕ → Call
+  -- the state
+  restore : List ℕ → Call
 
 -- the machine that a call leaves
 abbrev pub leftOf : Done → Machine
@@ -49,6 +52,10 @@ withHost x h queues = machine (x .hda) h (x .lists) queues (x .memory)
 
 abbrev pub withDevice : Machine → Hda → Machine
 withDevice x d = machine d (x .host) (x .lists) (x .queues) (x .memory)
+
+-- a restore is lent the lists alone
+abbrev pub withRestored : Machine → Restored → Machine
+withRestored x r = machine (r .answer .hda) (r .answer .host) (r .lists) (x .queues) (x .memory)
 
 -- a read, of registers, configuration or state, is lent the machine as it is
 unfoldable pub after : Call → Machine → Machine
@@ -67,8 +74,9 @@ after (playbackFails fails) x = withHost x (playbackFailsOf (x .host) (length (x
 after (captureFails fails) x = withHost x (captureFailsOf (x .host) (length (x .queues)) fails .host) (x .queues)
 after (downstream n) x = withHost x (downstreamOf (x .host) (length (x .queues)) n .host) (x .queues)
 after (save into) x = x
+after (restore state) x = withRestored x (restoreOf state (x .hda) (x .host) (x .lists) (length (x .queues)))
 
--- what the types say of the bytes that a call writes to the registers
+-- what the types say of the bytes that a call writes to the registers, and of those of a state
 abbrev pub Typed : Call → Type 0
 Typed (advance nanos) = Unit {0}
 Typed (read offset into) = Unit {0}
@@ -85,6 +93,7 @@ Typed (playbackFails fails) = Unit {0}
 Typed (captureFails fails) = Unit {0}
 Typed (downstream n) = Unit {0}
 Typed (save into) = Unit {0}
+Typed (restore state) = Bytes state
 
 -- A machine that passes the check of every call (document 01, "Numbers returned", below the table), and whose registers are what their type says: 256 bytes.
 pub record Valid (x : Machine) : Type 0 where

@@ -1,0 +1,63 @@
+-- Rising lists: what the book retires by a test of each position is what the device retires from the front. Assumes nothing.
+use Prim.Native.Nat.{ℕ, _+_, _≤_}
+use mathlib.Core.Path.{_≡_, refl, ap}
+use mathlib.Core.Bool.{Bool, true, false, cond, _&&_, and-eq-true-iff}
+use mathlib.Core.List.{List, [], _∷_, _++_}
+use native.Mathlib.Omega.{arith}
+use native.Mathlib.Numerals.{one-add}
+use borrow.Author.Tests.{ltb-true, leb-true, leb-false, lt-leb}
+use lib.Dec.{ltb, leb}
+use lib.ListN.{drop}
+use Rattle.positions.specs.Positions.{risesOf, upToOf}
+use Rattle.pieces.proofs.Spacing.{SpacedFrom, Spaced}
+use Rattle.book.specs.Book.{upTo, above}
+use Rattle.book.specs.Claim.{Rises, FourFrom, FourApart}
+
+pub rises-all : (lo : ℕ) (ps : List ℕ) (hi : ℕ) → lo ≤ hi → risesOf lo ps hi ≡ true → Rises lo ps hi
+unfolding risesOf
+rises-all lo [] hi h e = h
+rises-all lo (p ∷ ps) hi h e =
+    let a = and-eq-true-iff (ltb lo p) (leb p hi && risesOf p ps hi) .0 e in
+    let b = and-eq-true-iff (leb p hi) (risesOf p ps hi) .0 (a .1) in
+    (ltb-true lo p (a .0), rises-all p ps hi (leb-true p hi (b .0)) (b .1))
+
+-- where all are above c
+none-up : (c lo : ℕ) (ps : List ℕ) (hi : ℕ) → c ≤ lo → Rises lo ps hi → upTo c ps ≡ []
+none-up c lo [] hi h r = refl
+none-up c lo (p ∷ ps) hi h r = rw (lt-leb p c (omega (arith, r .0)), none-up c p ps hi (omega (arith, r .0)) (r .1))
+
+all-above : (c lo : ℕ) (ps : List ℕ) (hi : ℕ) → c ≤ lo → Rises lo ps hi → above c ps ≡ ps
+all-above c lo [] hi h r = refl
+all-above c lo (p ∷ ps) hi h r = rw (lt-leb p c (omega (arith, r .0)), all-above c p ps hi (omega (arith, r .0)) (r .1))
+
+above-step : (b : Bool) (c p : ℕ) (ps : List ℕ) → (b ≡ true → above c ps ≡ drop (upToOf c ps) ps) → (b ≡ false → above c ps ≡ ps)
+    → cond b (above c ps) (p ∷ above c ps) ≡ drop (cond b (1 + upToOf c ps) 0) (p ∷ ps)
+above-step true c p ps f g = rw one-add (f refl)
+above-step false c p ps f g = ap (λ (l : List ℕ). p ∷ l) (g refl)
+
+pub above-drop : (c lo : ℕ) (ps : List ℕ) (hi : ℕ) → Rises lo ps hi → above c ps ≡ drop (upToOf c ps) ps
+unfolding upToOf
+above-drop c lo [] hi r = refl
+above-drop c lo (p ∷ ps) hi r =
+    above-step (leb p c) c p ps (λ _. above-drop c p ps hi (r .1)) (λ e. all-above c p ps hi (omega (arith, leb-false p c e)) (r .1))
+
+halves-step : (b : Bool) (c p : ℕ) (ps : List ℕ) → (b ≡ true → upTo c ps ++ above c ps ≡ ps) → (b ≡ false → (upTo c ps ≡ []) × (above c ps ≡ ps))
+    → cond b (p ∷ upTo c ps) (upTo c ps) ++ cond b (above c ps) (p ∷ above c ps) ≡ p ∷ ps
+halves-step true c p ps f g = ap (λ (l : List ℕ). p ∷ l) (f refl)
+halves-step false c p ps f g = rw (g refl .0, g refl .1)
+
+-- none is lost between those retired and those left
+pub halves : (c lo : ℕ) (ps : List ℕ) (hi : ℕ) → Rises lo ps hi → upTo c ps ++ above c ps ≡ ps
+halves c lo [] hi r = refl
+halves c lo (p ∷ ps) hi r =
+    halves-step (leb p c) c p ps (λ _. halves c p ps hi (r .1))
+    (λ e. (none-up c p ps hi (omega (arith, leb-false p c e)) (r .1), all-above c p ps hi (omega (arith, leb-false p c e)) (r .1)))
+
+-- positions 4 apart
+four-from : (p offset hi : ℕ) (ps : List ℕ) → SpacedFrom p offset hi ps → FourFrom p ps
+four-from p offset hi [] f = tt
+four-from p offset hi (q ∷ ps) f = (f .0, four-from q offset hi ps (f .1))
+
+pub four-apart : (offset hi : ℕ) (ps : List ℕ) → Spaced offset hi ps → FourApart ps
+four-apart offset hi [] f = tt
+four-apart offset hi (p ∷ ps) f = four-from p offset hi ps f

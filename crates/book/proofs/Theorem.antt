@@ -1,0 +1,98 @@
+-- Demand 3 whole: both starts, and what ties every stream to the book after any list of calls. Assumes nothing.
+use Prim.Native.Nat.{ℕ, _*_, _≤_, _<_}
+use mathlib.Core.Path.{_≡_, refl, ap, subst, _∙_}
+use mathlib.Core.Bool.{Bool, true, false}
+use mathlib.Core.List.{List, _++_}
+use lib.ListN.{length, length-replicate, getD-replicate}
+use Rattle.word.specs.Parts.{partOf}
+use Rattle.stream.specs.Streams as stream
+use Rattle.stream.specs.Box.{streams}
+use Rattle.stream.proofs.Validity.{valid-parts, fresh-valid}
+use Rattle.pieces.proofs.Spacing.{SpacedAt, fresh-spaced}
+use Rattle.queue.specs.Queues.{capacity}
+use Rattle.host.specs.declared.Host.{Host}
+use Rattle.device.specs.Devices.{listSize, freshOf, streamAt}
+use Rattle.device.specs.Machines.{Machine}
+use Rattle.device.proofs.Checks.{passed}
+use Rattle.restore.proofs.Theorems.{restored-valid}
+use Rattle.calls.specs.Calls as calls
+use Rattle.calls.specs.Calls.{after}
+use Rattle.book.specs.Book.{Book}
+use Rattle.book.specs.Lists.{Step, run, allEvents, pendingOf, openingOf, bookOf}
+use Rattle.book.specs.Claim.{Starts, new, restored, made, Accepts, Agrees, NoRestore, Spaced}
+use Rattle.book.proofs.Ghosts.{Ghost, ghost, sees, sees-book, never-full}
+use Rattle.book.proofs.Orders.{rises-all, four-apart}
+use Rattle.book.proofs.Tied.{tied-opening}
+use Rattle.book.proofs.Machines.{Held, part-size}
+use Rattle.book.proofs.Restores.{restored-count}
+use Rattle.book.proofs.Calls.{run-held}
+
+abbrev opened : ℕ → Machine → Ghost
+opened i x = ghost (openingOf i x) false
+
+module _ (F : Type 0) (i : ℕ) (few : i < streams) where
+  abbrev Begins : Machine → Type 0
+  Begins x = Held F i (x .hda .streams) (x .lists) (opened i x)
+
+  begins : (x : Machine) → length (x .hda .streams) ≡ streams → listSize * streams ≤ length (x .lists)
+      → stream.validOf (streamAt (x .hda) i) (partOf listSize i (x .lists)) ≡ true → (F → SpacedAt (streamAt (x .hda) i) (partOf listSize i (x .lists))) → Begins x
+  begins x count space valid spaced =
+      record {
+        count = count;
+        space = space;
+        own = tied-opening F (streamAt (x .hda) i) (partOf listSize i (x .lists)) (pendingOf i x) false (part-size i (x .lists) few space) valid refl spaced (λ _. refl);
+      }
+
+  -- a new device's streams
+  fresh-at : (microphone : Bool) → streamAt (freshOf microphone) i ≡ stream.freshOf
+  unfolding freshOf
+  fresh-at microphone = getD-replicate streams i stream.freshOf stream.freshOf few
+
+  fresh-count : (microphone : Bool) → length (freshOf microphone .streams) ≡ streams
+  unfolding freshOf
+  fresh-count microphone = length-replicate streams stream.freshOf
+
+  new-begins : (microphone : Bool) (h : Host) (lists queues memory : List ℕ) → listSize * streams ≤ length lists → Begins (made microphone h lists queues memory)
+  new-begins microphone h lists queues memory long =
+      begins (made microphone h lists queues memory) (fresh-count microphone) long (rw (fresh-at microphone) (fresh-valid (partOf listSize i lists)))
+      (λ _. rw (fresh-at microphone) (fresh-spaced (partOf listSize i lists)))
+
+-- a restored one's
+restored-begins : (i : ℕ) (few : i < streams) (s : List ℕ) (x : Machine) → Accepts s x → Begins ⊥ i few (after (calls.restore s) x)
+unfolding after
+restored-begins i few s x e =
+    let y = after (calls.restore s) x in
+    let q = length (x .queues) in
+    let p = passed (y .hda) (y .host) (y .lists) q (restored-valid s (x .hda) (x .host) (x .lists) q (e .0)) in
+    begins ⊥ i few y (restored-count s (x .hda) (x .host) (x .lists) q (e .0) (e .1)) (p .lists) (p .streams i few) (λ f. absurd f)
+
+started : (i : ℕ) (few : i < streams) (x : Machine) → Starts x → Begins ⊥ i few x
+started i few x (new microphone h lists queues memory long wide) = new-begins ⊥ i few microphone h lists queues memory long
+started i few x (restored s y e) = restored-begins i few s y e
+
+pub agrees : (i : ℕ) → i < streams → (cs : List Step) (x : Machine) → Starts x → Agrees i cs x
+unfolding bookOf
+agrees i few cs x start =
+    let es = allEvents i cs x in
+    let t = run-held ⊥ i few cs x (opened i x) (λ f. absurd f) (started i few x start) .own in
+    let same : sees es (opened i x) .book ≡ bookOf i cs x = sees-book es (opened i x) in
+    let v = valid-parts _ _ (t .valid) in
+    record {
+      submitted = t .submitted ∙ ap (λ (b : Book). b .submitted) same;
+      consumed = t .consumed ∙ ap (λ (b : Book). b .consumed) same;
+      pending = t .pending ∙ ap (λ (b : Book). b .pending) same;
+      heard = v .heard;
+      rises = rises-all _ (pendingOf i (run cs x)) _ (v .heard) (v .rises);
+      exact = subst (λ (b : Book). b .ends ≡ b .retired ++ b .pending) same (t .exact);
+    }
+
+pub spaced : (i : ℕ) → i < streams → (cs : List Step) (microphone : Bool) (h : Host) (lists queues memory : List ℕ) → listSize * streams ≤ length lists
+    → capacity * streams ≤ length queues → NoRestore cs (made microphone h lists queues memory) → Spaced i cs (made microphone h lists queues memory)
+spaced i few cs microphone h lists queues memory long wide none =
+    let x = made microphone h lists queues memory in
+    let es = allEvents i cs x in
+    let t = run-held (Unit {0}) i few cs x (opened i x) (λ _. none) (new-begins (Unit {0}) i few microphone h lists queues memory long) .own in
+    record {
+      apart = four-apart _ _ (pendingOf i (run cs x)) (t .spaced tt);
+      never = never-full es (opened i x) (t .never tt);
+    }

@@ -1,0 +1,150 @@
+-- A stream tied to the book: its counts and pending positions are the book's, nothing is lost, it is valid; and, where `F` holds, its positions are 4 apart and the limit
+-- has stopped no transfer. What each event keeps of it. Assumes nothing.
+use Prim.Native.Nat.{ℕ, _+_, _-_, _≤_, _<_, max}
+use mathlib.Core.Path.{_≡_, refl, sym, ap, subst, _∙_}
+use mathlib.Core.Bool.{Bool, true, false}
+use mathlib.Core.List.{List, [], _∷_, _++_, append-nil, append-assoc}
+use native.Mathlib.Omega.{arith}
+use lib.ListN.{length}
+use Rattle.positions.specs.Positions.{positionsOf}
+use Rattle.positions.proofs.Change.{retire-drops}
+use Rattle.stream.specs.declared.Stream.{Stream}
+use Rattle.stream.specs.declared.Cyclic.{Cyclic}
+use Rattle.stream.specs.Streams.{freshOf, validOf}
+use Rattle.stream.specs.Update.{consumedOf, retiredOf, updateOf}
+use Rattle.stream.proofs.Validity.{valid-parts, parts-valid, fresh-valid, retired-few, update-list-length, update-valid}
+use Rattle.plan.specs.declared.End.{End}
+use Rattle.plan.specs.declared.End.the-variants.{Inside, Plain, Flagged}
+use Rattle.pieces.specs.Pieces.{State, movedOf}
+use Rattle.pieces.specs.Ends.{endedOf}
+use Rattle.pieces.proofs.Turns.{Moves}
+use Rattle.pieces.proofs.Facts.{length-list, next-submitted, next-consumed}
+use Rattle.pieces.proofs.Validity.{moved-kept}
+use Rattle.pieces.proofs.Positions.{moved-positions}
+use Rattle.pieces.proofs.Spacing.{SpacedAt, fresh-spaced, update-spaced, moved-spaced}
+use Rattle.turn.specs.Engines.{withFraction}
+use Rattle.turn.proofs.Rounds.{time}
+use Rattle.device.specs.Devices.{listSize}
+use Rattle.book.specs.Book.{Book, reset, moved, updated, upTo, above, restoredWith, movedBy, note}
+use Rattle.book.specs.Events.{flaggedOf}
+use Rattle.book.specs.Claim.{Rises}
+use Rattle.book.proofs.Ghosts.{Ghost, ghost, see}
+use Rattle.book.proofs.Orders.{rises-all, above-drop, halves}
+
+pub record Tied (F : Type 0) (s : Stream) (l : List ℕ) (a : Ghost) : Type 0 where
+  pub sized : length l ≡ listSize
+  pub valid : validOf s l ≡ true
+  pub submitted : s .submitted ≡ a .book .submitted
+  pub consumed : s .consumed ≡ a .book .consumed
+  pub pending : positionsOf (s .pending) l ≡ a .book .pending
+  pub exact : a .book .ends ≡ a .book .retired ++ a .book .pending
+  pub spaced : F → SpacedAt s l
+  pub never : F → a .full ≡ false
+
+-- what a moved piece does to the book
+moved-submitted : (n : ℕ) (f : Bool) (b : Book) → movedBy n f b .submitted ≡ b .submitted + n
+moved-submitted n true b = refl
+moved-submitted n false b = refl
+
+moved-consumed : (n : ℕ) (f : Bool) (b : Book) → movedBy n f b .consumed ≡ b .consumed
+moved-consumed n true b = refl
+moved-consumed n false b = refl
+
+moved-pending : (n : ℕ) (end : End) (b : Book) → movedBy n (flaggedOf end) b .pending ≡ b .pending ++ endedOf (b .submitted + n) end
+moved-pending n Inside b = sym (append-nil (b .pending))
+moved-pending n Plain b = sym (append-nil (b .pending))
+moved-pending n Flagged b = refl
+
+moved-exact : (n : ℕ) (f : Bool) (b : Book) → b .ends ≡ b .retired ++ b .pending → let c = movedBy n f b in c .ends ≡ c .retired ++ c .pending
+moved-exact n true b e =
+    let last : List ℕ = (b .submitted + n) ∷ [] in
+    ap (λ (l : List ℕ). l ++ last) e ∙ append-assoc (b .retired) (b .pending) last
+moved-exact n false b e = e
+
+module _ (F : Type 0) where
+  -- another frame time within the limit
+  pub tied-times : (s : Stream) (l : List ℕ) (a : Ghost) (fraction : ℕ) → (s .fraction < time → fraction < time) → Tied F s l a → Tied F (withFraction s fraction) l a
+  tied-times s l a fraction within t =
+      let p = valid-parts s l (t .valid) in
+      record {
+        sized = t .sized;
+        valid = parts-valid (withFraction s fraction) l (record { few = p .few; rises = p .rises; listed = p .listed; heard = p .heard; time = within (p .time) });
+        submitted = t .submitted;
+        consumed = t .consumed;
+        pending = t .pending;
+        exact = t .exact;
+        spaced = t .spaced;
+        never = t .never;
+      }
+
+  -- made or reset
+  pub tied-reset : (l : List ℕ) (a : Ghost) → length l ≡ listSize → (F → a .full ≡ false) → Tied F freshOf l (see reset a)
+  unfolding freshOf note positionsOf
+  tied-reset l a sized never =
+      record {
+        sized = sized;
+        valid = fresh-valid l;
+        submitted = refl;
+        consumed = refl;
+        pending = refl;
+        exact = refl;
+        spaced = λ _. fresh-spaced l;
+        never = never;
+      }
+
+  -- the first device, or one restored: counts and positions as they are
+  pub tied-opening : (s : Stream) (l ps : List ℕ) (full : Bool) → length l ≡ listSize → validOf s l ≡ true → positionsOf (s .pending) l ≡ ps → (F → SpacedAt s l)
+      → (F → full ≡ false) → Tied F s l (ghost (restoredWith (s .submitted) (s .consumed) ps) full)
+  tied-opening s l ps full sized valid e spaced never =
+      record { sized = sized; valid = valid; submitted = refl; consumed = refl; pending = e; exact = refl; spaced = spaced; never = never }
+
+  -- the position update
+  pub tied-updated : (s : Stream) (l : List ℕ) (a : Ghost) (latency : ℕ) → Tied F s l a
+      → let u = updateOf s l latency in Tied F (u .updated .stream) (u .list) (see (updated latency) a)
+  unfolding updateOf note
+  tied-updated s l a latency t =
+      let v = valid-parts s l (t .valid) in
+      let b = a .book in
+      let view = positionsOf (s .pending) l in
+      let room : 34816 ≤ length l = omega (arith, t .sized) in
+      let k = retiredOf s l latency in
+      let c = consumedOf s latency in
+      let c′ = max (b .consumed) (b .submitted - latency) in
+      let same : c ≡ c′ = rw (t .consumed, t .submitted) in
+      let r : Rises (s .consumed) view (s .submitted) = rises-all (s .consumed) view (s .submitted) (v .heard) (v .rises) in
+      record {
+        sized = update-list-length s l latency (v .few) room ∙ t .sized;
+        valid = update-valid s l latency room (t .valid);
+        submitted = t .submitted;
+        consumed = same;
+        pending = retire-drops k (s .pending) l (retired-few s l latency) (omega (arith, v .few))
+            ∙ sym (above-drop c (s .consumed) view (s .submitted) r) ∙ ap (λ (n : ℕ). above n view) same ∙ ap (above c′) (t .pending);
+        exact = t .exact
+            ∙ ap (λ (ps : List ℕ). b .retired ++ ps) (sym (subst (λ (ps : List ℕ). upTo c′ ps ++ above c′ ps ≡ ps) (t .pending) (halves c′ (s .consumed) view (s .submitted) r)))
+            ∙ sym (append-assoc (b .retired) (upTo c′ (b .pending)) (above c′ (b .pending)));
+        spaced = λ f. update-spaced s l latency (v .few) room (t .spaced f);
+        never = t .never;
+      }
+
+  -- a piece
+  module _ (g : Cyclic) (count : ℕ) (byte : g .lvi ≤ 255) where
+    pub tied-moved : (x : State) (a : Ghost) (at n : ℕ) (end : End) → x .done < count → Moves g count x at n end → Tied F (x .stream) (x .list) a
+        → let y = movedOf g x at n end in Tied F (y .stream) (y .list) (see (moved n (flaggedOf end)) a)
+    unfolding note
+    tied-moved x a at n end more k t =
+        let s = x .stream in
+        let b = a .book in
+        let room : 34816 ≤ length (x .list) = omega (arith, t .sized) in
+        record {
+          sized = length-list (x .list) s n end (k .room) room ∙ t .sized;
+          valid = parts-valid _ _ (moved-kept g count byte x at n end more k (room, valid-parts s (x .list) (t .valid)) .1);
+          submitted = next-submitted s (g .lvi) n end ∙ ap (λ (m : ℕ). m + n) (t .submitted) ∙ sym (moved-submitted n (flaggedOf end) b);
+          consumed = next-consumed s (g .lvi) n end ∙ t .consumed ∙ sym (moved-consumed n (flaggedOf end) b);
+          pending = moved-positions s (x .list) (g .lvi) n end (k .room) (k .submitted) room
+              ∙ ap (λ (ps : List ℕ). ps ++ endedOf (s .submitted + n) end) (t .pending)
+              ∙ ap (λ (m : ℕ). b .pending ++ endedOf (m + n) end) (t .submitted)
+              ∙ sym (moved-pending n end b);
+          exact = moved-exact n (flaggedOf end) b (t .exact);
+          spaced = λ f. moved-spaced g count x at n end k room (t .spaced f);
+          never = t .never;
+        }

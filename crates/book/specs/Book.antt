@@ -1,0 +1,64 @@
+-- The book of demand 3, from document 01's list and not from the device: for each stream two counts and three lists of positions, and what each event does to them.
+use Prim.Native.Nat.{ℕ, _+_, _-_, max}
+use mathlib.Core.Bool.{Bool, true, false, cond}
+use mathlib.Core.List.{List, [], _∷_, _++_}
+use lib.Dec.{leb}
+
+pub record Book : Type 0 where
+  pub submitted : ℕ
+  pub consumed : ℕ
+  pub ends : List ℕ
+  pub retired : List ℕ
+  pub pending : List ℕ
+
+abbrev pub book : ℕ → ℕ → List ℕ → List ℕ → List ℕ → Book
+book submitted consumed ends retired pending =
+    record { submitted = submitted; consumed = consumed; ends = ends; retired = retired; pending = pending }
+
+-- what happens to a stream; a transfer fails because 4,352 are pending, or for another reason
+pub data Event : Type 0 where
+  reset : Event
+  restored : (submitted consumed : ℕ) → (positions : List ℕ) → Event
+  moved : (bytes : ℕ) → (flagged : Bool) → Event
+  updated : (latency : ℕ) → Event
+  failed : (full : Bool) → Event
+
+-- positions up to a count, and those above it
+abbrev pub upTo : ℕ → List ℕ → List ℕ
+upTo c [] = []
+upTo c (p ∷ ps) = cond (leb p c) (p ∷ upTo c ps) (upTo c ps)
+
+abbrev pub above : ℕ → List ℕ → List ℕ
+above c [] = []
+above c (p ∷ ps) = cond (leb p c) (above c ps) (p ∷ above c ps)
+
+-- "Stream made or reset: lists empty, counts as in the Rust"
+abbrev pub made : Book
+made = book 0 0 [] [] []
+
+-- "The positions stand in ends and pending; retired is empty"
+abbrev pub restoredWith : ℕ → ℕ → List ℕ → Book
+restoredWith submitted consumed positions = book submitted consumed positions [] positions
+
+-- "submitted grows by its bytes. A flagged end then puts submitted last in ends and pending"
+abbrev pub movedBy : ℕ → Bool → Book → Book
+movedBy n false b = book (b .submitted + n) (b .consumed) (b .ends) (b .retired) (b .pending)
+movedBy n true b =
+    let submitted = b .submitted + n in
+    book submitted (b .consumed) (b .ends ++ (submitted ∷ [])) (b .retired) (b .pending ++ (submitted ∷ []))
+
+-- "Pending positions up to it go, in order, behind those retired"
+abbrev pub consumedTo : ℕ → Book → Book
+consumedTo c b = book (b .submitted) c (b .ends) (b .retired ++ upTo c (b .pending)) (above c (b .pending))
+
+-- "consumed becomes the larger of itself and submitted less latency"
+unfoldable pub note : Event → Book → Book
+note reset b = made
+note (restored submitted consumed positions) b = restoredWith submitted consumed positions
+note (moved n flagged) b = movedBy n flagged b
+note (updated latency) b = consumedTo (max (b .consumed) (b .submitted - latency)) b
+note (failed full) b = b
+
+unfoldable pub notes : List Event → Book → Book
+notes [] b = b
+notes (e ∷ es) b = notes es (note e b)

@@ -1,0 +1,78 @@
+-- Demand 3, whole (document 01, "The book of demand 3").
+use Prim.Native.Nat.{ℕ, _+_, _*_, _≤_, _<_}
+use mathlib.Core.Path.{_≡_}
+use mathlib.Core.Bool.{Bool, true}
+use mathlib.Core.List.{List, [], _∷_, _++_}
+use lib.ListN.{length}
+use Rattle.stream.specs.Box.{streams}
+use Rattle.queue.specs.Queues.{capacity}
+use Rattle.host.specs.declared.Host.{Host}
+use Rattle.device.specs.Devices.{listSize, freshOf, streamAt}
+use Rattle.device.specs.Machines.{Machine, machine, checkMachine}
+use Rattle.restore.specs.Restores.{numberOf}
+use Rattle.calls.specs.Calls.{Call, after}
+use Rattle.calls.specs.Calls as calls
+use Rattle.book.specs.Book.{Event, failed}
+use Rattle.book.specs.Lists.{Step, handed, run, allEvents, pendingOf, bookOf}
+
+-- a list of positions rises strictly, from above lo up to hi
+abbrev pub Rises : ℕ → List ℕ → ℕ → Type 0
+Rises lo [] hi = lo ≤ hi
+Rises lo (p ∷ ps) hi = (lo < p) × Rises p ps hi
+
+-- neighbours are at least 4 apart
+abbrev pub FourFrom : ℕ → List ℕ → Type 0
+FourFrom q [] = Unit {0}
+FourFrom q (p ∷ ps) = (q + 4 ≤ p) × FourFrom p ps
+
+abbrev pub FourApart : List ℕ → Type 0
+FourApart [] = Unit {0}
+FourApart (p ∷ ps) = FourFrom p ps
+
+-- no transfer fails because 4,352 are pending
+abbrev pub NeverFull : List Event → Type 0
+NeverFull [] = Unit {0}
+NeverFull (e ∷ es) = ((e ≡ failed true) → ⊥) × NeverFull es
+
+-- a device newly made, where the lent spaces are large enough, whatever the host end and guest memory are; or one that an accepted restore put in force
+abbrev pub made : Bool → Host → List ℕ → List ℕ → List ℕ → Machine
+made microphone h lists queues memory = machine (freshOf microphone) h lists queues memory
+
+abbrev pub Accepts : List ℕ → Machine → Type 0
+Accepts s x = (checkMachine x ≡ 0) × (numberOf s (x .hda) (x .host) ≡ 0)
+
+pub data Starts : Machine → Type 0 where
+  new : (microphone : Bool) (h : Host) (lists queues memory : List ℕ) → listSize * streams ≤ length lists → capacity * streams ≤ length queues
+      → Starts (made microphone h lists queues memory)
+  restored : (s : List ℕ) (x : Machine) → Accepts s x → Starts (after (calls.restore s) x)
+
+-- after the list, for one stream
+pub record Agrees (i : ℕ) (cs : List Step) (x : Machine) : Type 0 where
+  -- counts and pending completions are the book's
+  pub submitted : streamAt (run cs x .hda) i .submitted ≡ bookOf i cs x .submitted
+  pub consumed : streamAt (run cs x .hda) i .consumed ≡ bookOf i cs x .consumed
+  pub pending : pendingOf i (run cs x) ≡ bookOf i cs x .pending
+  -- consumed never passes submitted; pending positions rise strictly, above consumed and up to submitted
+  pub heard : streamAt (run cs x .hda) i .consumed ≤ streamAt (run cs x .hda) i .submitted
+  pub rises : Rises (streamAt (run cs x .hda) i .consumed) (pendingOf i (run cs x)) (streamAt (run cs x .hda) i .submitted)
+  -- nothing lost, nothing doubled: restored positions and then flagged ends are, in order, those retired and then those pending
+  pub exact : bookOf i cs x .ends ≡ bookOf i cs x .retired ++ bookOf i cs x .pending
+
+-- no restore is accepted in the list
+abbrev pub NotRestored : Call → Machine → Type 0
+NotRestored c x = (s : List ℕ) → c ≡ calls.restore s → Accepts s x → ⊥
+
+abbrev pub NoRestore : List Step → Machine → Type 0
+NoRestore [] x = Unit {0}
+NoRestore (c ∷ cs) x = NotRestored (c .call) (handed c x) × NoRestore cs (after (c .call) (handed c x))
+
+pub record Spaced (i : ℕ) (cs : List Step) (x : Machine) : Type 0 where
+  pub apart : FourApart (pendingOf i (run cs x))
+  pub never : NeverFull (allEvents i cs x)
+
+pub record Demand3 : Type 0 where
+  pub agrees : (i : ℕ) → i < streams → (cs : List Step) (x : Machine) → Starts x → Agrees i cs x
+  pub spaced : (i : ℕ) → i < streams → (cs : List Step) (microphone : Bool) (h : Host) (lists queues memory : List ℕ) → listSize * streams ≤ length lists
+      → capacity * streams ≤ length queues
+      → NoRestore cs (made microphone h lists queues memory)
+      → Spaced i cs (made microphone h lists queues memory)

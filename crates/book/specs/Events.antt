@@ -1,0 +1,181 @@
+-- What happens to stream i in a call, read off the definitions that the calls' contracts cite: each step follows the definition of the same name and asks it what it did.
+use Prim.Native.Nat.{ℕ, zero, suc, _+_, _-_, _*_}
+use mathlib.Core.Bool.{Bool, true, false, cond, not, _&&_, _||_}
+use mathlib.Core.List.{List, [], _∷_, _++_}
+use lib.ListN.{drop}
+use lib.Dec.{ltb, eqb}
+use Rattle.word.specs.Place.{wordAt}
+use Rattle.word.specs.Parts.{partOf}
+use Rattle.word.specs.Each.{eachOf, always}
+use Rattle.format.specs.declared.Format.{Format}
+use Rattle.format.specs.declared.Format.the-variants.{Unsupported, Rate}
+use Rattle.format.specs.Format.{formatOf}
+use Rattle.gain.specs.declared.Gain.{Gain}
+use Rattle.codec.specs.declared.Codec.{Codec}
+use Rattle.positions.specs.Positions.{positionsOf}
+use Rattle.stream.specs.declared.Stream.{Stream}
+use Rattle.stream.specs.declared.Cyclic.{Cyclic}
+use Rattle.plan.specs.declared.End.{End}
+use Rattle.plan.specs.declared.End.the-variants.{Inside, Plain, Flagged}
+use Rattle.plan.specs.declared.Plan.{Plan}
+use Rattle.plan.specs.declared.Plan.the-variants.{Failed, Full, Move}
+use Rattle.plan.specs.Plans.{readyOf, planOf}
+use Rattle.pieces.specs.Pieces.{State, Out, stateOf, pieceOf}
+use Rattle.queue.specs.declared.Queue.{Queue}
+use Rattle.queue.specs.Queues.{capacity, latencyOf}
+use Rattle.transfer.specs.Transfers.{silence, takenOf, capturedOf}
+use Rattle.host.specs.declared.Host.{Host}
+use Rattle.host.specs.declared.Opening.{Opening}
+use Rattle.registers.specs.Places.{gctl, ctl, fmt, byteAt, has, dmaOf}
+use Rattle.turn.specs.declared.Setup.{Setup}
+use Rattle.turn.specs.declared.Engine.{Engine}
+use Rattle.turn.specs.Setups.{setupOf}
+use Rattle.turn.specs.Engines.{Work, workOf, updatedOf, withUpdated, framesOf, transferAt, transferredOf, roundOf, accruedOf, dueOf}
+use Rattle.turn.specs.Turns.{openStreamOf, engineOf}
+use Rattle.device.specs.Devices.{listSize, streamAt}
+use Rattle.device.specs.Machines.{Machine, checkMachine, withCommanded, commandedOf}
+use Rattle.settle.specs.declared.Ports.{Ports}
+use Rattle.settle.specs.Settle.{ports, settleAt}
+use Rattle.write.specs.Writes.{writtenOf, controlledOf, flushedOf}
+use Rattle.serve.specs.Serve.{turnsOf, runs, goesOn, turnAt}
+use Rattle.advance.specs.Advance.{tickedOf}
+use Rattle.record.specs.Loads as record-loads
+use Rattle.parse.specs.States.{placeOf}
+use Rattle.restore.specs.Restores as restore
+use Rattle.calls.specs.Calls as calls
+use Rattle.book.specs.Book.{Event, reset, restored, moved, updated, failed}
+
+abbrev pub onlyIf : Bool → List Event → List Event
+onlyIf b es = cond b es []
+
+-- ---- a transfer: its pieces, up to one that fails
+abbrev pub flaggedOf : End → Bool
+flaggedOf Inside = false
+flaggedOf Plain = false
+flaggedOf Flagged = true
+
+abbrev pub planEvents : Plan → List Event
+planEvents Failed = failed false ∷ []
+planEvents Full = failed true ∷ []
+planEvents (Move at n end) = moved n (flaggedOf end) ∷ []
+
+abbrev pub onwardEvents : Bool → Out → (State → List Event) → List Event
+onwardEvents true o rest = rest (o .state)
+onwardEvents false o rest = []
+
+abbrev pub againPieces : Bool → List Event → Out → (State → List Event) → List Event
+againPieces true es o rest = es ++ onwardEvents (o .ok) o rest
+againPieces false es o rest = []
+
+unfoldable pub piecesEvents : ℕ → Cyclic → ℕ → State → List Event
+piecesEvents zero g count x = []
+piecesEvents (suc fuel) g count x =
+    againPieces (ltb (x .done) count) (planEvents (planOf g (x .stream) (x .memory) (count - x .done))) (pieceOf g count x) (piecesEvents fuel g count)
+
+-- the samples that a transfer starts with, as `captureOf` and `playbackOf` have them
+abbrev pub samplesOf : Cyclic → Queue → Bool → Gain → Gain → List ℕ → ℕ → List ℕ
+samplesOf g q connected left right part count =
+    cond (g .capture) (capturedOf connected left right part (takenOf connected q part count) count) (silence count)
+
+unfoldable pub transferEvents : Setup → Work → ℕ → List Event
+transferEvents g x count =
+    let e = x .engine in
+    let pcm = samplesOf (g .cyclic) (e .queue) (g .connected) (g .left) (g .right) (x .part) count in
+    cond (readyOf (g .cyclic)) (piecesEvents count (g .cyclic) count (stateOf (e .stream) (x .list) (x .memory) pcm 0)) (failed false ∷ [])
+
+-- ---- a turn: the position update at its start, then transfers, each with an update where it succeeded
+abbrev pub updateEvent : Setup → Engine → Event
+updateEvent g e = updated (latencyOf (e .queue) (g .cyclic .capture) (g .downstream))
+
+unfoldable pub roundEvents : Setup → Work → List Event
+roundEvents g x =
+    let n = framesOf g (x .engine) in
+    let t = transferAt g x n .transferred in
+    transferEvents g x (4 * n) ++ onlyIf (t .ok) (updateEvent g (transferredOf (x .engine) (t .stream) (t .queue) n) ∷ [])
+
+abbrev pub againRounds : Bool → Setup → Work → (Work → List Event) → List Event
+againRounds true g x rest = []
+againRounds false g x rest = roundEvents g x ++ rest (roundOf g x)
+
+unfoldable pub roundsEvents : ℕ → Setup → Work → List Event
+roundsEvents zero g x = []
+roundsEvents (suc fuel) g x = againRounds (eqb (framesOf g (x .engine)) 0) g x (roundsEvents fuel g)
+
+abbrev pub timedEvents : Setup → ℕ → ℕ → Work → List Event
+timedEvents g rate nanos x =
+    let e = accruedOf rate nanos (x .engine) in
+    roundsEvents (dueOf e) g (workOf e (x .list) (x .part) (x .memory))
+
+unfoldable pub servedEvents : Setup → ℕ → ℕ → Work → List Event
+servedEvents g rate nanos x =
+    let y = withUpdated (updatedOf g (x .engine) (x .list) (x .memory)) (x .part) in
+    updateEvent g (x .engine) ∷ onlyIf (y .engine .running) (timedEvents g rate nanos y)
+
+-- an unsupported format and a refused opening serve nothing
+abbrev pub openedEvents : List ℕ → Codec → ℕ → ℕ → ℕ → ℕ → Stream → List ℕ → List ℕ → List ℕ → Opening → List Event
+openedEvents regs codec i rate nanos limit s l part m o =
+    onlyIf (o .ok) (servedEvents (setupOf regs codec i (o .host .downstream) limit) rate nanos (workOf (engineOf regs (o .host) i s) l part m))
+
+abbrev pub formattedEvents : List ℕ → Codec → Host → Bool → ℕ → ℕ → ℕ → Stream → List ℕ → List ℕ → List ℕ → Format → List Event
+formattedEvents regs codec h microphone i nanos limit s l part m Unsupported = []
+formattedEvents regs codec h microphone i nanos limit s l part m (Rate rate) =
+    openedEvents regs codec i rate nanos limit s l part m (openStreamOf h microphone i)
+
+unfoldable pub turnEvents : ℕ → ℕ → Machine → List Event
+turnEvents nanos i x =
+    let d = x .hda in
+    onlyIf (runs (d .regs) i)
+    (formattedEvents (d .regs) (d .link .codec) (x .host) (d .microphone) i nanos capacity (streamAt d i) (partOf listSize i (x .lists)) (partOf capacity i (x .queues)) (x .memory)
+    (formatOf (wordAt 2 (fmt i) (d .regs))))
+
+-- ---- advance: stream i's turn finds what the turns before it left, and is not taken where one of them was refused
+unfoldable pub serveEvents : ℕ → ℕ → Machine → List Event
+serveEvents nanos i x =
+    let w = eachOf goesOn (turnAt nanos) i 0 (turnsOf false x) in
+    onlyIf (goesOn w) (turnEvents nanos i (w .machine))
+
+unfoldable pub advanceEvents : ℕ → ℕ → Machine → List Event
+advanceEvents nanos i x =
+    let y = withCommanded x (x .host) (commandedOf (tickedOf nanos (x .hda)) (x .memory)) in
+    onlyIf (not (x .hda .paused || not (has 1 (byteAt (x .hda .regs) gctl)))) (onlyIf (dmaOf (y .hda .config) (y .hda .regs)) (serveEvents nanos i y))
+
+-- ---- a register write: the controller's reset, and the stream's own, which finds what the streams before it left
+abbrev pub controllerEvents : List ℕ → Ports → List Event
+controllerEvents old x = onlyIf (has 1 (byteAt old gctl) && not (has 1 (byteAt (x .hda .regs) gctl))) (reset ∷ [])
+
+abbrev pub settleEvents : List ℕ → ℕ → Ports → List Event
+settleEvents old i x = onlyIf (has 1 (byteAt (eachOf always (settleAt old) i 0 x .hda .regs) (ctl i))) (reset ∷ [])
+
+unfoldable pub writeEvents : ℕ → List ℕ → ℕ → Machine → List Event
+writeEvents offset bytes i x =
+    let old = x .hda .regs in
+    let p = ports (writtenOf (x .hda) offset bytes) (x .host) in
+    controllerEvents old p ++ settleEvents old i (flushedOf (controlledOf old p))
+
+-- ---- restore, where it is accepted: the counts and positions of the state
+abbrev pub restoredEvent : List ℕ → ℕ → Event
+restoredEvent s i =
+    let t = record-loads.streamAt (placeOf s i) s in
+    restored (t .submitted) (t .consumed) (positionsOf (t .pending) (drop (placeOf s i + 34) s))
+
+unfoldable pub restoreEvents : List ℕ → ℕ → Machine → List Event
+restoreEvents s i x = onlyIf (eqb (restore.numberOf s (x .hda) (x .host)) 0) (restoredEvent s i ∷ [])
+
+-- ---- every call; one that its check refuses does nothing
+unfoldable pub eventsOf : ℕ → calls.Call → Machine → List Event
+eventsOf i (calls.advance nanos) x = onlyIf (eqb (checkMachine x) 0) (advanceEvents nanos i x)
+eventsOf i (calls.read offset into) x = []
+eventsOf i (calls.write offset bytes) x = onlyIf (eqb (checkMachine x) 0) (writeEvents offset bytes i x)
+eventsOf i (calls.barRead bar offset into) x = []
+eventsOf i (calls.barWrite bar offset bytes) x = onlyIf (eqb bar 0 && eqb (checkMachine x) 0) (writeEvents offset bytes i x)
+eventsOf i (calls.configRead register) x = []
+eventsOf i (calls.configWrite register offset bytes) x = []
+eventsOf i (calls.pinChange node) x = []
+eventsOf i (calls.pause paused) x = []
+eventsOf i (calls.feed frames) x = []
+eventsOf i (calls.pull into) x = []
+eventsOf i (calls.playbackFails fails) x = []
+eventsOf i (calls.captureFails fails) x = []
+eventsOf i (calls.downstream n) x = []
+eventsOf i (calls.save into) x = []
+eventsOf i (calls.restore state) x = onlyIf (eqb (checkMachine x) 0) (restoreEvents state i x)

@@ -1,0 +1,4 @@
+pub mod Book
+pub mod Events
+pub mod Lists
+pub mod Claim

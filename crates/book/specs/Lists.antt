@@ -1,0 +1,45 @@
+-- Lists of calls. Between two calls nobody else writes the device, its lists and its queues; guest memory and the rest of the host end record, the two switches and the
+-- downstream count, may be any at each call (document 01, "The book of demand 3").
+use Prim.Native.Nat.{ℕ}
+use mathlib.Core.Bool.{Bool}
+use mathlib.Core.List.{List, [], _∷_, _++_}
+use Rattle.positions.specs.Positions.{positionsOf}
+use Rattle.word.specs.Parts.{partOf}
+use Rattle.host.specs.Hosts.{host}
+use Rattle.device.specs.Devices.{listSize, streamAt}
+use Rattle.device.specs.Machines.{Machine, machine}
+use Rattle.calls.specs.Calls.{Call, after}
+use Rattle.book.specs.Book.{Book, Event, restoredWith, notes}
+use Rattle.book.specs.Events.{eventsOf}
+
+-- what a call is handed anew, and the call
+pub record Step : Type 0 where
+  pub playback : Bool
+  pub capture : Bool
+  pub downstream : ℕ
+  pub memory : List ℕ
+  pub call : Call
+
+-- the machine that the call finds
+abbrev pub handed : Step → Machine → Machine
+handed c x = machine (x .hda) (host (c .playback) (c .capture) (c .downstream) (x .host .queues)) (x .lists) (x .queues) (c .memory)
+
+unfoldable pub run : List Step → Machine → Machine
+run [] x = x
+run (c ∷ cs) x = run cs (after (c .call) (handed c x))
+
+-- what happens to stream i in a list of calls, in order
+unfoldable pub allEvents : ℕ → List Step → Machine → List Event
+allEvents i [] x = []
+allEvents i (c ∷ cs) x = eventsOf i (c .call) (handed c x) ++ allEvents i cs (after (c .call) (handed c x))
+
+-- a stream's pending positions
+abbrev pub pendingOf : ℕ → Machine → List ℕ
+pendingOf i x = positionsOf (streamAt (x .hda) i .pending) (partOf listSize i (x .lists))
+
+-- the book starts from the first device and lists: of a new one all is 0 and empty, of a restored one its positions stand in ends and pending
+abbrev pub openingOf : ℕ → Machine → Book
+openingOf i x = restoredWith (streamAt (x .hda) i .submitted) (streamAt (x .hda) i .consumed) (pendingOf i x)
+
+unfoldable pub bookOf : ℕ → List Step → Machine → Book
+bookOf i cs x = notes (allEvents i cs x) (openingOf i x)
