@@ -8,7 +8,7 @@ ghost use Rattle.driver.specs.Calls.{playbackFailsOf, captureFailsOf, downstrea
 ghost use Rattle.advance.specs.Advance.{advanceOf};
 ghost use Rattle.write.specs.Writes.{writeOf};
 ghost use Rattle.hda.specs.Calls.{barWriteOf, configWriteOf, pinOf};
-ghost use Rattle.port_device.specs.Calls.{lent, returned, made, behind, newOf, pausedOf};
+ghost use Rattle.port_device.specs.Calls.{lent, returned, made, behind, none, restoredBy, newOf, pausedOf};
 ghost use Rattle.port_reads.specs.Reads.{shown, readOf, barReadOf, configReadOf, saveOf};
 ghost use Rattle.port_host.specs.Calls.{kept, fedOut, pulledOut, feedOf, pullOf, setting};
 ghost use Rattle.port_host.specs.Calls as hosts;
@@ -179,6 +179,20 @@ pub extern "C" fn hda_save(
     ensures { λ r. ⌜ shown r (now (into .exit)) ≡ saveOf (now (device .entry)) (now (host .entry)) (now (lists .entry)) (length (now (queues .entry))) (now (into .entry)) ⌝ }
 {
     port_reads::save(device, host, lists, queues, into)
+}
+
+// A saved state in the place of the device's own.
+#[no_mangle]
+pub extern "C" fn hda_restore(
+    device: &mut [u8],
+    host: &mut [u8],
+    lists: &mut [u8],
+    queues: &[u8],
+    state: &[u8],
+) -> u64
+    ensures { λ r. ⌜ returned r (lent (now (device .exit)) (now (host .exit)) (now (lists .exit)) (now (queues .entry)) none) ≡ behind (restoredBy (now (state .entry))) (lent (now (device .entry)) (now (host .entry)) (now (lists .entry)) (now (queues .entry)) none) ⌝ }
+{
+    port_device::restore(device, host, lists, queues, state)
 }
 
 // Frames into the queue of the capture stream; the value returned is their count.

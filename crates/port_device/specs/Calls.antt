@@ -1,12 +1,13 @@
 -- Calls that change a device, on the bytes that a caller lends: each is the call on what the records hold, behind the test that they are records.
 use Prim.Native.Nat.{ℕ}
 use mathlib.Core.Bool.{Bool, false, cond}
-use mathlib.Core.List.{List}
+use mathlib.Core.List.{List, []}
 use lib.ListN.{length}
 use lib.Dec.{eqb}
 use Rattle.device.specs.declared.Answer.{Answer}
-use Rattle.device.specs.Machines.{Machine, Done, machine}
+use Rattle.device.specs.Machines.{Machine, Done, machine, doneOf}
 use Rattle.hda.specs.Calls as hda
+use Rattle.restore.specs.Restores.{restoreOf}
 use Rattle.record.specs.Layout.{deviceSize}
 use Rattle.record.specs.Devices.{deviceBytes}
 use Rattle.record.specs.Loads.{deviceAt}
@@ -44,6 +45,13 @@ returnedOf d = returned (answeredOf (d .answer)) (lent (deviceBytes (d .answer .
 -- a call behind the test of the records: bytes that are none change nothing
 unfoldable pub behind : (Machine → Done) → Lent → Returned
 behind call x = cond (isMachine (x .device) (x .host)) (returnedOf (call (machineAt x))) (returned (unreadableOf (length (x .lists)) (length (x .queues))) x)
+
+-- restore is lent no guest memory
+abbrev pub none : List ℕ
+none = []
+
+abbrev pub restoredBy : List ℕ → Machine → Done
+restoredBy state x = let r = restoreOf state (x .hda) (x .host) (x .lists) (length (x .queues)) in doneOf (r .answer) (r .lists) (x .queues) (x .memory)
 
 -- what is returned with a device record, and with both records
 pub record Made : Type 0 where

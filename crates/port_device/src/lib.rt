@@ -8,7 +8,7 @@ ghost use Rattle.host_record.specs.Hosts.{hostSize};
 ghost use Rattle.advance.specs.Advance.{advanceOf};
 ghost use Rattle.write.specs.Writes.{writeOf};
 ghost use Rattle.hda.specs.Calls.{barWriteOf, configWriteOf, pinOf};
-ghost use Rattle.port_device.specs.Calls.{lent, returned, made, madeOf, answeredOf, storedOut, storedOf, behind, newOf, pausedOf};
+ghost use Rattle.port_device.specs.Calls.{lent, returned, made, madeOf, answeredOf, storedOut, storedOf, behind, none, restoredBy, newOf, pausedOf};
 
 // What is returned for an answer.
 fn answered(a: Answer) -> u64
@@ -157,6 +157,25 @@ pub fn pin_presence_changed(
     let h = host_record::load_host(host);
     let a = hda::pin_presence_changed(d, h, lists, queues, memory, node);
     kept(a, device)
+}
+
+// A saved state in the place of the device's own.
+pub fn restore(
+    device: &mut [u8],
+    host: &mut [u8],
+    lists: &mut [u8],
+    queues: &[u8],
+    state: &[u8],
+) -> u64
+    ensures { λ r. ⌜ returned r (lent (now (device .exit)) (now (host .exit)) (now (lists .exit)) (now (queues .entry)) none) ≡ behind (restoredBy (now (state .entry))) (lent (now (device .entry)) (now (host .entry)) (now (lists .entry)) (now (queues .entry)) none) ⌝ }
+{
+    if !reply::is_machine(device, host) {
+        return reply::unreadable(lists.len(), queues.len());
+    }
+    let d = record::load_device(device);
+    let h = host_record::load_host(host);
+    let a = restore::restore(d, h, lists, queues, state);
+    stored(a, device, host)
 }
 
 // DMA, positions and the wall clock stand still while paused.
