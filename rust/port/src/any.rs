@@ -2,7 +2,7 @@
 use crate::layout::{DEVICE, HOST, LIST, LISTS, MAX_DOWNSTREAM, POSITIONS, QUEUE, QUEUES, STREAMS, device, get, host, stream};
 use crate::{Machine, Reply, calls, number};
 
-/// All that calls can be lent. A call uses what it is handed; `buffer` is what it reads into, writes from, saves into, feeds or pulls.
+/// All that calls can be lent. A call uses what it is handed; `buffer` is what it reads into, writes from, saves into, restores, feeds or pulls.
 #[derive(Clone, PartialEq, Eq)]
 pub struct Lent {
     pub device: Vec<u8>,
@@ -27,7 +27,7 @@ impl Lent {
         }
     }
 
-    /// Document 01's 10 or 9 that a call gives before anything else, written from its text ("Numbers returned"); save's own 10 is another matter.
+    /// Document 01's 10 or 9 that a call gives before anything else, written from its text ("Numbers returned"); save's own 10 and restore's own 9 are another matter.
     pub fn refusal(&self, handed: Handed) -> Option<u8> {
         let short_queues = self.queues.len() < QUEUES;
         let short = short_queues || self.lists.len() < LISTS;
@@ -108,6 +108,7 @@ pub enum Call {
     PinPresenceChanged(u32),
     SetPaused(bool),
     Save,
+    Restore,
     Feed,
     Pull,
     SetPlaybackFails(bool),
@@ -130,7 +131,7 @@ pub enum Handed {
 
 impl Call {
     /// Every call once.
-    pub const EACH: [Self; 17] = [
+    pub const EACH: [Self; 18] = [
         Self::New(true),
         Self::HostNew,
         Self::Advance(1_000_000),
@@ -143,6 +144,7 @@ impl Call {
         Self::PinPresenceChanged(3),
         Self::SetPaused(true),
         Self::Save,
+        Self::Restore,
         Self::Feed,
         Self::Pull,
         Self::SetPlaybackFails(true),
@@ -174,6 +176,7 @@ impl Call {
             Self::PinPresenceChanged(node) => calls::pin_presence_changed(device, host, lists, queues, memory, node),
             Self::SetPaused(paused) => calls::set_paused(device, host, lists, queues, paused),
             Self::Save => calls::save(device, host, lists, queues, buffer),
+            Self::Restore => calls::restore(device, host, lists, queues, buffer),
             Self::Feed => calls::feed(host, queues, buffer),
             Self::Pull => calls::pull(host, queues, buffer),
             Self::SetPlaybackFails(fails) => calls::set_playback_fails(host, queues, fails),

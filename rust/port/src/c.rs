@@ -144,6 +144,18 @@ unsafe extern "C" {
         into: *mut u8,
         into_length: usize,
     ) -> u64;
+    pub fn hda_restore(
+        device: *mut u8,
+        device_length: usize,
+        host: *mut u8,
+        host_length: usize,
+        lists: *mut u8,
+        lists_length: usize,
+        queues: *const u8,
+        queues_length: usize,
+        state: *const u8,
+        state_length: usize,
+    ) -> u64;
     pub fn hda_feed(
         host: *mut u8,
         host_length: usize,

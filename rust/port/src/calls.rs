@@ -231,6 +231,24 @@ pub fn save(device: &[u8], host: &[u8], lists: &[u8], queues: &[u8], into: &mut 
     })
 }
 
+/// The device takes a saved state: the whole of `state`.
+pub fn restore(device: &mut [u8], host: &mut [u8], lists: &mut [u8], queues: &[u8], state: &[u8]) -> Reply {
+    Reply(unsafe {
+        c::hda_restore(
+            device.as_mut_ptr(),
+            device.len(),
+            host.as_mut_ptr(),
+            host.len(),
+            lists.as_mut_ptr(),
+            lists.len(),
+            queues.as_ptr(),
+            queues.len(),
+            state.as_ptr(),
+            state.len(),
+        )
+    })
+}
+
 /// Frames for capture; the reply's value says how many were taken.
 pub fn feed(host: &mut [u8], queues: &mut [u8], frames: &[u8]) -> Reply {
     Reply(unsafe { c::hda_feed(host.as_mut_ptr(), host.len(), queues.as_mut_ptr(), queues.len(), frames.as_ptr(), frames.len()) })

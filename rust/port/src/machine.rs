@@ -114,6 +114,13 @@ impl Machine {
         (answer, state)
     }
 
+    /// The device takes a saved state, or gives the number of what is wrong with it and stays as it was.
+    pub fn restore(&mut self, state: &[u8]) -> Answer {
+        let Bytes { device, host, lists, queues } = &mut self.bytes;
+        let reply = calls::restore(device, host, &mut **lists, &**queues, state);
+        self.answer(reply)
+    }
+
     /// Frames for capture; the answer's value says how many were taken.
     pub fn feed(&mut self, frames: &[u8]) -> Answer {
         let reply = calls::feed(&mut self.bytes.host, &mut *self.bytes.queues, frames);
@@ -149,11 +156,6 @@ impl Machine {
 impl Machine {
     pub fn microphone(&self) -> bool {
         self.bytes.device[device::MICROPHONE] != 0
-    }
-
-    /// Ticks and billionths of the next tick.
-    pub fn clock(&self) -> (u64, u64) {
-        (get::<8>(&self.bytes.device, device::TICKS), get::<8>(&self.bytes.device, device::REMAINDER))
     }
 
     /// Whether the message of the present interrupt has been sent.
@@ -205,6 +207,23 @@ mod tests {
         assert_eq!((answer.number, state.len(), &state[..5]), (number::DONE, 748, b"HDA1\x01".as_slice()));
         assert_eq!(state, machine.bytes().device[..748]);
         assert!(!Machine::new(false).microphone());
+    }
+
+    #[test]
+    fn a_saved_state_comes_back() {
+        let (mut machine, mut memory) = (Machine::new(true), [0; 4096]);
+        let (_, fresh) = machine.saved();
+        for (offset, bytes) in [(8, vec![1]), (0xb2, vec![0x11, 0]), (0xa0, vec![2])] {
+            machine.write(&mut memory, offset, &bytes);
+        }
+        let (_, running) = machine.saved();
+        assert_eq!(machine.restore(&fresh).number, number::DONE);
+        assert!(machine.saved().1 == fresh && !machine.open(1));
+        assert_eq!(machine.restore(&running).number, number::DONE);
+        assert!(machine.saved().1 == running && machine.open(1) && !machine.open(0));
+        assert_eq!(Machine::new(false).restore(&fresh).number, number::MICROPHONE);
+        machine.set_playback_fails(true);
+        assert_eq!((machine.restore(&running).number, machine.open(1)), (number::HOST_CLOSED, true));
     }
 
     #[test]

@@ -1,12 +1,26 @@
 //! What a call returns.
 use crate::layout::{DEVICE, device, get};
 
-/// Document 01's numbers, as far as these calls return them.
+/// Document 01's numbers. 2 to 8 are of restore alone.
 pub mod number {
     pub const DONE: u8 = 0;
-    /// An opening was refused in `advance`.
+    /// An opening was refused in `advance` or restore.
     pub const HOST_CLOSED: u8 = 1;
-    /// A record that breaks a condition, or bytes that are none.
+    /// The state ends inside a field.
+    pub const SHORT_STATE: u8 = 2;
+    /// The state does not begin with `HDA1`.
+    pub const WRONG_MARK: u8 = 3;
+    /// The state is of a device with a microphone, and this one has none, or the other way round.
+    pub const MICROPHONE: u8 = 4;
+    /// A format word of the state is unsupported.
+    pub const FORMAT: u8 = 5;
+    /// More than 4,352 positions, or more than the state has bytes for.
+    pub const LIST_LENGTH: u8 = 6;
+    /// A position that is not above the one before, or above what was submitted.
+    pub const LIST_ORDER: u8 = 7;
+    /// A stream's descriptor, counts or time.
+    pub const STREAM: u8 = 8;
+    /// Restore: bytes left over, pause byte, clock, responses or identity. Every call: a record that breaks a condition, or bytes that are none.
     pub const STATE: u8 = 9;
     /// Too little space lent.
     pub const LENT_SPACE: u8 = 10;

@@ -48,6 +48,10 @@ fn lent(machine: &Machine, call: Call) -> Lent {
     let mut lent = Lent::of(machine, MEMORY, if call == Call::Save { MAX_STATE } else { 8 });
     lent.memory.fill(0xdd);
     lent.buffer.fill(0xee);
+    if call == Call::Restore {
+        // A state that the device takes: what is refused is the machine.
+        lent.buffer = machine.saved().1;
+    }
     lent
 }
 

@@ -1,10 +1,10 @@
 //! fuzz SEED ROUNDS: calls of any kind in any order on bytes of any length and content, most of them near a valid machine's.
 //!
 //! After each call: the number is one that document 01 gives here, 9 and 10 exactly where its conditions say so; a refusal has changed no byte; a machine that a call
-//! accepted is still valid. Round R of a seed is round 0 of seed + R. That a call returns is seen by the run's end.
+//! accepted is still valid; a restored machine is the one that document 01 says. Round R of a seed is round 0 of seed + R. That a call returns is seen by the run's end.
 use port::any::{Call, Handed, Lent, is_valid_downstream};
 use port::layout::{DEVICE, HOST, LIST, LISTS, MAX_STATE, POSITIONS, QUEUES, STATE, STREAMS, device, get, host, put, stream};
-use port::{Machine, Reply, number};
+use port::{Machine, Reply, number, states};
 use random::Random;
 use std::collections::BTreeMap;
 use std::process::ExitCode;
@@ -74,7 +74,13 @@ fn check(call: Call, reply: Reply, before: &Lent, after: &Lent) -> Result<(), St
         !accepted || handed == Handed::NewDevice || handed == Handed::NewHost || after.refusal(handed).is_none(),
         "the machine is no longer valid",
     )?;
+    is(call != Call::Restore || number != number::DONE || is_restored(before, after), "not the machine of the state")?;
     is(before.device.len() == after.device.len() && before.memory.len() == after.memory.len(), "a length changed")
+}
+
+fn is_restored(before: &Lent, after: &Lent) -> bool {
+    let [expected, found] = [states::restored(before), Ok(after.clone())].map(|lent| lent.map(states::without_interrupts));
+    expected == found
 }
 
 /// The number that document 01 gives. Only `advance` may be refused by the host, which depends on too much to be said here.
@@ -87,6 +93,7 @@ fn expected(call: Call, before: &Lent, reply: Reply) -> u8 {
         Call::Feed | Call::Pull if !before.buffer.len().is_multiple_of(4) => number::ODD_FRAMES,
         Call::SetDownstream(bytes) if !is_valid_downstream(u64::from(bytes)) => number::LATENCY,
         Call::Save if before.buffer.len() < saved_bytes(before) => number::LENT_SPACE,
+        Call::Restore => states::restored(before).map_or_else(|number| number, |_| number::DONE),
         _ => number::DONE,
     }
 }
@@ -247,6 +254,7 @@ fn call(random: &mut Random) -> Call {
         (2, Call::PinPresenceChanged(node)),
         (1, Call::SetPaused(any & 7 == 0)),
         (3, Call::Save),
+        (6, Call::Restore),
         (5, Call::Feed),
         (5, Call::Pull),
         (1, Call::SetPlaybackFails(any & 3 == 0)),
@@ -255,8 +263,12 @@ fn call(random: &mut Random) -> Call {
     ])
 }
 
-/// A buffer for the call: of any length, for a save mostly about what it needs.
+/// A buffer for the call: of any length, for a save mostly about what it needs, for a restore mostly near a state.
 fn refill(random: &mut Random, lent: &mut Lent, call: Call) {
+    if call == Call::Restore {
+        lent.buffer = state(random, lent);
+        return;
+    }
     let length = match call {
         Call::Save if lent.refusal(Handed::Machine).is_none() => {
             let needed = saved_bytes(lent);
@@ -266,4 +278,77 @@ fn refill(random: &mut Random, lent: &mut Lent, call: Call) {
         _ => random.pick(&[0, 1, 1, 2, 4, 4, 4, 8, 17, 64, 300]),
     };
     lent.buffer = random.bytes(length);
+}
+
+/// The machine's own state or a new device's with a few fields changed, or any bytes.
+fn state(random: &mut Random, lent: &Lent) -> Vec<u8> {
+    if random.percent(8) {
+        let length = random.below(800) as usize;
+        return random.bytes(length);
+    }
+    let mut state = if random.percent(60) && lent.refusal(Handed::Machine).is_none() {
+        let mut saved = Lent { buffer: vec![0; saved_bytes(lent)], ..lent.clone() };
+        Call::Save.make(&mut saved);
+        saved.buffer
+    } else {
+        Machine::new(lent.device.get(device::MICROPHONE) != Some(&0)).saved().1
+    };
+    for _ in 0..random.below(5) {
+        change_state(random, &mut state);
+    }
+    // Last, what makes the places of fields uncertain.
+    match random.below(20) {
+        0 => state.truncate(random.below(state.len() as u64) as usize),
+        1 => state.push(random.byte()),
+        2 => {
+            let count = random.pick(&[1, 2, 4352, 4353, u64::from(u32::MAX)]);
+            put::<4>(&mut state, device::stream(0) + stream::PENDING, count);
+        }
+        _ => {}
+    }
+    state
+}
+
+/// One field of a whole state, mostly to what a device takes.
+fn change_state(random: &mut Random, state: &mut Vec<u8>) {
+    let index = random.below(2) as usize;
+    let registers = device::REGISTERS + 0x80 + 32 * index;
+    let first = get::<4>(state, device::stream(0) + stream::PENDING) as usize;
+    let numbers = device::stream(index) + 8 * first * index;
+    let (word, any) = (random.pick(&[0x0011, 0x4011, 0x5b11, 0x0911, 0, 0x2011]), random.next_u64());
+    let billions = random.pick(&[0, 999_999_999, 1_000_000_000, 8192 * 1_000_000_000, 8193 * 1_000_000_000 - 1, 8193 * 1_000_000_000]);
+    match random.below(13) {
+        0 => state[random.below(6) as usize] = random.pick(&[0, 1, 1, 2]),
+        1 => put::<2>(state, device::CODEC + 24 * random.pick(&[2, 4]) + 10, word),
+        2 => put::<2>(state, registers + 0x12, word),
+        3..6 => state[registers] = random.pick(&[2, 6, 0, 3]),
+        6 => put::<8>(state, device::TICKS, random.pick(&[0, any, u64::MAX])),
+        7 => put::<8>(state, device::REMAINDER, billions),
+        8 => put::<2>(state, device::RESPONSES, random.pick(&[0, 255, 256])),
+        9 => put::<2>(state, numbers + stream::DESCRIPTOR, random.pick(&[0, 255, 255, 256])),
+        10 => put::<8>(state, numbers + stream::TIME, billions),
+        11 => {
+            let place = random.below(device::stream(0) as u64) as usize;
+            state[place] = random.byte();
+        }
+        _ => lay_list(random, state, numbers),
+    }
+}
+
+/// Counts and positions of the stream whose numbers stand at a place, in the room that its list has there.
+fn lay_list(random: &mut Random, state: &mut Vec<u8>, numbers: usize) {
+    let (list, length) = (numbers + device::STREAM, 8 * get::<4>(state, numbers + stream::PENDING) as usize);
+    let count = random.pick(&[0, 1, 3, 40, 4352, 4353]);
+    let small = random.below(1000);
+    let consumed = random.pick(&[0, small, u64::MAX - 30_000]);
+    let mut positions: Vec<u64> = (1..=count).map(|place| consumed + 4 * place).collect();
+    put::<8>(state, numbers + stream::CONSUMED, consumed);
+    put::<8>(state, numbers + stream::SUBMITTED, consumed + 4 * count + random.below(3));
+    put::<4>(state, numbers + stream::PENDING, count);
+    if count > 0 && random.percent(20) {
+        let place = random.below(count) as usize;
+        positions[place] = random.pick(&[0, consumed, positions[place] - 4, positions[place] + 4, u64::MAX]);
+    }
+    let bytes = positions.iter().flat_map(|position| position.to_le_bytes());
+    state.splice(list..list + length, bytes);
 }
