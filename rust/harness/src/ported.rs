@@ -1,11 +1,6 @@
 //! The side over the port's C functions.
-//!
-//! Restore is not among them yet: until it is, this side asks the amended oracle and lays what an accepted state left there into its records. So a lockstep says
-//! nothing about the port's restore, but much about its calls on restored states.
-use crate::device::Amended;
 use crate::side::{Direction, Interrupts, Message, Side, View, number};
-use crate::state::State;
-use port::layout::{self, device, host, put};
+use port::layout::{host, put};
 use port::{Answer, Bytes, Machine};
 
 pub struct Port {
@@ -34,18 +29,6 @@ impl Port {
     fn swap_form(&mut self) -> bool {
         self.by_bar = !self.by_bar;
         self.by_bar
-    }
-
-    /// An amended device for which a restore is the same as for this one: its outcome depends on microphone, clock and switches alone.
-    fn oracle(&self) -> Amended {
-        let mut oracle = Amended::new(self.machine.microphone(), layout::QUEUE);
-        let (_, fresh) = oracle.save();
-        let mut state = State::parse(&fresh).expect("a new device saves a state");
-        (state.ticks, state.remainder) = self.machine.clock();
-        assert_eq!(oracle.restore(&state.bytes()), number::DONE, "a new device takes another clock");
-        oracle.set_opening_fails(Direction::Capture, self.machine.capture_fails());
-        oracle.set_opening_fails(Direction::Playback, self.machine.playback_fails());
-        oracle
     }
 }
 
@@ -110,21 +93,15 @@ impl Side for Port {
         (self.told(answer), state)
     }
     fn restore(&mut self, state: &[u8]) -> u32 {
-        let mut oracle = self.oracle();
-        oracle.take_interrupts();
-        let number = oracle.restore(state);
-        if number == number::DONE {
-            let view = oracle.view();
-            self.change(|bytes| lay(bytes, &view));
-            let Interrupts { level, messages } = oracle.take_interrupts();
-            self.interrupts.level = level;
-            self.interrupts.messages.extend(messages);
-        }
-        number
+        let answer = self.machine.restore(state);
+        self.told(answer)
     }
 
     fn close(&mut self, direction: Direction) {
-        self.change(|bytes| close(bytes, direction.index()));
+        self.change(|bytes| {
+            bytes.host[host::open(direction.index())] = 0;
+            put::<4>(&mut bytes.host, host::length(direction.index()), 0);
+        });
     }
     fn memory(&self) -> &[u8] {
         &self.memory
@@ -148,28 +125,5 @@ impl Side for Port {
             opening_fails: [machine.capture_fails(), machine.playback_fails()],
             downstream: machine.downstream(),
         }
-    }
-}
-
-fn close(bytes: &mut Bytes, index: usize) {
-    bytes.host[host::open(index)] = 0;
-    put::<4>(&mut bytes.host, host::length(index), 0);
-}
-
-/// Lays what a restore left into the records: the device whole, and of the host end the openings, whose queues are empty.
-fn lay(bytes: &mut Bytes, view: &View) {
-    let state = State::parse(&view.state).expect("a device saves a state");
-    let head = device::stream(0);
-    bytes.device[..head].copy_from_slice(&view.state[..head]);
-    bytes.device[device::ASSERTED] = u8::from(view.asserted);
-    let mut saved = &view.state[head..];
-    for (index, stream) in state.streams.iter().enumerate() {
-        let (numbers, rest) = saved.split_at(device::STREAM);
-        let (list, rest) = rest.split_at(8 * stream.pending.len());
-        bytes.device[device::stream(index)..device::stream(index + 1)].copy_from_slice(numbers);
-        bytes.lists[layout::LIST * index..][..list.len()].copy_from_slice(list);
-        saved = rest;
-        close(bytes, index);
-        bytes.host[host::open(index)] = u8::from(view.open[index]);
     }
 }

@@ -46,8 +46,8 @@ fn play(seed: u64, seen: &mut BTreeMap<String, u64>) -> Result<(), String> {
         let before = lent.clone();
         let before = std::mem::replace(&mut lent, before);
         let reply = call.make(&mut lent);
-        let name = format!("{:?} gave {}", call.handed(), reply.number());
-        *seen.entry(name).or_default() += 1;
+        let kind = if call == Call::Restore { "Restore".into() } else { format!("{:?}", call.handed()) };
+        *seen.entry(format!("{kind} gave {}", reply.number())).or_default() += 1;
         check(call, reply, &before, &lent).map_err(|error| format!("{call:?} returned {:#x}: {error}", reply.0))?;
     }
     Ok(())
@@ -318,7 +318,7 @@ fn change_state(random: &mut Random, state: &mut Vec<u8>) {
     let (word, any) = (random.pick(&[0x0011, 0x4011, 0x5b11, 0x0911, 0, 0x2011]), random.next_u64());
     let billions = random.pick(&[0, 999_999_999, 1_000_000_000, 8192 * 1_000_000_000, 8193 * 1_000_000_000 - 1, 8193 * 1_000_000_000]);
     match random.below(13) {
-        0 => state[random.below(6) as usize] = random.pick(&[0, 1, 1, 2]),
+        0 => state[random.pick(&[device::MICROPHONE, device::PAUSED, device::PAUSED, 3])] = random.pick(&[0, 1, b'1', 2]),
         1 => put::<2>(state, device::CODEC + 24 * random.pick(&[2, 4]) + 10, word),
         2 => put::<2>(state, registers + 0x12, word),
         3..6 => state[registers] = random.pick(&[2, 6, 0, 3]),
