@@ -1,4 +1,4 @@
-/* Calls every function of include/hda.h from C and checks a few answers: frames played and captured, a message sent, an opening refused, a state saved. */
+/* Calls every function of include/hda.h from C and checks a few answers: frames played and captured, a message sent, an opening refused, a state saved and restored. */
 #include "hda.h"
 #include <stdio.h>
 #include <string.h>
@@ -149,12 +149,49 @@ static void saved(void)
     CHECK(memcmp(state, "HDA1\1\1", 6), 0);
 }
 
+/* The state of `saved`, which is of a paused device with a running capture and a stopped playback. */
+static void restored(void)
+{
+    uint8_t before[HDA_DEVICE_BYTES], frames[8] = {0};
+    memcpy(before, device, sizeof before);
+    /* Openings for capture still fail, and nothing changes. */
+    CHECK(hda_number(hda_restore(RECORDS, state, 748)), HDA_HOST_CLOSED);
+    CHECK(hda_number(hda_set_capture_fails(HOST, 0)), HDA_DONE);
+    CHECK(hda_number(hda_restore(RECORDS, state, 747)), HDA_SHORT_STATE);
+    CHECK(hda_number(hda_restore(RECORDS, state, 749)), HDA_STATE);
+    state[0] = 'h';
+    CHECK(hda_number(hda_restore(RECORDS, state, 748)), HDA_WRONG_MARK);
+    state[0] = 'H';
+    state[4] = 0;
+    CHECK(hda_number(hda_restore(RECORDS, state, 748)), HDA_MICROPHONE);
+    state[4] = 1;
+    state[262 + 0xb2] = 0x10;
+    CHECK(hda_number(hda_restore(RECORDS, state, 748)), HDA_FORMAT);
+    state[262 + 0xb2] = 0x11;
+    state[710] = 5;
+    CHECK(hda_number(hda_restore(RECORDS, state, 748)), HDA_LIST_LENGTH);
+    state[710] = 1;
+    CHECK(hda_number(hda_restore(RECORDS, state, 748)), HDA_LIST_ORDER);
+    state[710] = 0;
+    state[681] = 1;
+    CHECK(hda_number(hda_restore(RECORDS, state, 748)), HDA_STREAM);
+    state[681] = 0;
+    CHECK(memcmp(before, device, sizeof before), 0);
+    /* The guest stops the capture, and the state brings it back. */
+    write_register(0x80, 0, 1);
+    CHECK(hda_value(hda_feed(HOST, frames, sizeof frames)), 0);
+    CHECK(hda_number(hda_restore(RECORDS, state, 748)), HDA_DONE);
+    CHECK(memcmp(before, device, sizeof before), 0);
+    CHECK(hda_value(hda_feed(HOST, frames, sizeof frames)), 2);
+}
+
 int main(void)
 {
     made();
     played();
     refused();
     saved();
+    restored();
     printf("%d checks, %d failed\n", checks, failures);
     return failures != 0;
 }

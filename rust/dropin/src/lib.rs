@@ -1,12 +1,10 @@
-//! The proved device in the place of the Rust's `Hda`, behind the hypervisor's own traits: `BusDevice`, `PciDevice` and `AudioClock`.
+//! The proved device in the place of the Rust's `Hda`, behind the hypervisor's own traits: `BusDevice`, `PciDevice`, `AudioClock` and `Snapshot`.
 //!
 //! Two things differ for the hypervisor. The device calls no host backend: the host's sound driver feeds, pulls and sets through this type ([`Hda::feed`],
 //! [`Hda::pull`] and the three settings). And guest memory is one region from address 0 on, lent whole to each call.
-//!
-//! `Snapshot` is not implemented: it needs restore, which the port does not have yet. [`Hda::save_state`] is there.
 use port::{Answer, Machine, number};
 use reference::audio::AudioClock;
-use reference::{BarInfo, BarKind, BusDevice, DeviceError, GuestMemory, IrqLine, MsiMessage, MsiSink, PciDevice};
+use reference::{BarInfo, BarKind, BusDevice, DeviceError, GuestMemory, IrqLine, MsiMessage, MsiSink, PciDevice, Snapshot};
 use std::sync::Arc;
 use std::time::Duration;
 use vm_memory::{GuestAddress, GuestMemory as _, GuestMemoryRegion as _};
@@ -79,17 +77,6 @@ impl Hda {
     pub fn pin_presence_changed(&mut self, node: u8) {
         self.with_memory(|machine, memory| machine.pin_presence_changed(memory, u32::from(node)));
     }
-
-    /// Stable id of this device instance in the machine.
-    pub fn state_id(&self) -> String {
-        self.id.clone()
-    }
-
-    /// The saved state, in the Rust's own layout.
-    pub fn save_state(&self) -> Result<Vec<u8>, DeviceError> {
-        let (answer, state) = self.machine.saved();
-        result(answer).map(|_| state)
-    }
 }
 
 /// The host's sound driver's side. Frames are 4 bytes; the format is the stream's.
@@ -131,6 +118,40 @@ fn result(answer: Answer) -> Result<Answer, DeviceError> {
         _ => "invalid HDA device",
     };
     Err(DeviceError::Other(error.into()))
+}
+
+/// The error of a refused state, as the Rust has it; of its format word the number does not tell which.
+fn state_error(number: u8) -> DeviceError {
+    let error = match number {
+        number::HOST_CLOSED => return DeviceError::Other("host closed".into()),
+        number::SHORT_STATE => "truncated HDA snapshot",
+        number::WRONG_MARK => "bad HDA snapshot version",
+        number::MICROPHONE => "HDA microphone configuration mismatch",
+        number::FORMAT => "unsupported HDA format",
+        number::LIST_LENGTH => "invalid HDA completion count",
+        number::LIST_ORDER => "invalid HDA completion position",
+        number::STREAM => "invalid HDA stream state",
+        _ => "invalid HDA snapshot state",
+    };
+    DeviceError::State(error.into())
+}
+
+impl Snapshot for Hda {
+    fn state_id(&self) -> String {
+        self.id.clone()
+    }
+    /// In the Rust's own layout.
+    fn save_state(&self) -> Result<Vec<u8>, DeviceError> {
+        let (answer, state) = self.machine.saved();
+        result(answer).map(|_| state)
+    }
+    fn restore_state(&mut self, state: &[u8]) -> Result<(), DeviceError> {
+        let answer = self.machine.restore(state);
+        match self.deliver(answer).number {
+            number::DONE => Ok(()),
+            refused => Err(state_error(refused)),
+        }
+    }
 }
 
 impl BusDevice for Hda {

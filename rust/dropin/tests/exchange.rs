@@ -26,7 +26,7 @@ impl MsiSink for Wires {
     }
 }
 
-/// A host backend with a queue for each direction, as document 01's host end has.
+/// A host backend with a queue for each direction, which an opening empties, as document 01's host end has.
 #[derive(Clone, Default)]
 struct Backend {
     playback: Arc<Mutex<VecDeque<u8>>>,
@@ -57,9 +57,11 @@ impl HostAudio for Backend {
         "queues"
     }
     fn open_playback(&self, _: AudioFormat) -> Result<Box<dyn PlaybackSink>, DeviceError> {
+        self.playback.lock().unwrap().clear();
         Ok(Box::new(self.clone()))
     }
     fn open_capture(&self, _: AudioFormat) -> Result<Box<dyn CaptureSource>, DeviceError> {
+        self.capture.lock().unwrap().clear();
         Ok(Box::new(self.clone()))
     }
 }
@@ -74,11 +76,10 @@ fn take(queue: &Mutex<VecDeque<u8>>, out: &mut [u8]) -> usize {
 }
 
 /// What the hypervisor uses of a device, and the host's side of sound.
-trait Sound: BusDevice + PciDevice + AudioClock {
+trait Sound: BusDevice + PciDevice + AudioClock + Snapshot {
     fn feed(&mut self, frames: &[u8]) -> usize;
     fn pull(&mut self, into: &mut [u8]) -> usize;
     fn pin_presence_changed(&mut self, node: u8);
-    fn save_state(&self) -> Vec<u8>;
 }
 
 struct Original(reference::hda::Hda, Backend);
@@ -120,6 +121,18 @@ impl AudioClock for Original {
     }
 }
 
+impl Snapshot for Original {
+    fn state_id(&self) -> String {
+        self.0.state_id()
+    }
+    fn save_state(&self) -> Result<Vec<u8>, DeviceError> {
+        self.0.save_state()
+    }
+    fn restore_state(&mut self, state: &[u8]) -> Result<(), DeviceError> {
+        self.0.restore_state(state)
+    }
+}
+
 impl Sound for Original {
     fn feed(&mut self, frames: &[u8]) -> usize {
         let mut queue = self.1.capture.lock().unwrap();
@@ -133,9 +146,6 @@ impl Sound for Original {
     fn pin_presence_changed(&mut self, node: u8) {
         self.0.pin_presence_changed(node)
     }
-    fn save_state(&self) -> Vec<u8> {
-        self.0.save_state().unwrap()
-    }
 }
 
 impl Sound for dropin::Hda {
@@ -147,9 +157,6 @@ impl Sound for dropin::Hda {
     }
     fn pin_presence_changed(&mut self, node: u8) {
         dropin::Hda::pin_presence_changed(self, node)
-    }
-    fn save_state(&self) -> Vec<u8> {
-        dropin::Hda::save_state(self).unwrap()
     }
 }
 
@@ -197,7 +204,19 @@ fn scenario(device: &mut dyn Sound, memory: &GuestMemory, wires: &Wires, message
         }
         seen.push(look(device, memory, wires));
     }
+    let mut kept = Vec::new();
     for step in 0..60_u64 {
+        if step == 15 {
+            kept = device.save_state().unwrap();
+        }
+        if step == 22 {
+            // Back to step 15: streams, registers and codec as then, empty queues, the clock as now.
+            seen.push(restored(device, &kept));
+            seen.push(look(device, memory, wires));
+        }
+        if step == 45 {
+            seen.extend(damaged(&kept).iter().map(|state| restored(device, state)));
+        }
         if step == 30 {
             device.set_paused(true);
         }
@@ -221,8 +240,36 @@ fn scenario(device: &mut dyn Sound, memory: &GuestMemory, wires: &Wires, message
             device.write(0x5d, &[5]);
         }
     }
-    seen.push(format!("{:?}", device.save_state()));
+    seen.push(format!("{} {:?}", device.state_id(), device.save_state()));
     seen
+}
+
+/// What a restore answers; of an unsupported format the Rust's text also tells the word.
+fn restored(device: &mut dyn Sound, state: &[u8]) -> String {
+    let answer = format!("{:?}", device.restore_state(state));
+    match answer.find(" 0x") {
+        Some(word) => answer[..word].to_string() + "\"))",
+        None => answer,
+    }
+}
+
+/// States that every number of restore but 1 refuses.
+fn damaged(state: &[u8]) -> Vec<Vec<u8>> {
+    let with = |place: usize, bytes: &[u8]| {
+        let mut state = state.to_vec();
+        state[place..place + bytes.len()].copy_from_slice(bytes);
+        state
+    };
+    vec![
+        state[..700].to_vec(),
+        with(0, b"HDA2"),
+        with(4, &[0]),
+        with(518 + 24 * 2 + 10, &[0x10, 0]),
+        with(710, &[0xff; 4]),
+        with(694, &[0xff; 8]),
+        with(680, &[0, 1]),
+        with(5, &[2]),
+    ]
 }
 
 /// Registers, configuration, guest memory and wires, now.
@@ -269,7 +316,26 @@ fn the_two_are_exchanged_and_nothing_shows() {
             assert_eq!(rust, port, "line {place}");
         }
         assert!(rust.iter().any(|line| line.starts_with("100 ")), "frames were played");
+        let refusals: Vec<&String> = rust.iter().filter(|line| line.starts_with("Err(State(")).collect();
+        assert_eq!((refusals.len(), rust.iter().filter(|line| *line == "Ok(())").count()), (8, 1), "{refusals:?}");
         assert_eq!(!messages, rust.iter().any(|line| line.contains(" true [")), "the line was high where messages are off");
+    }
+}
+
+/// Either takes what the other saved: a guest can be moved from one to the other, and back.
+#[test]
+fn states_are_exchanged() {
+    let made = |make: fn(GuestMemory, Arc<Wires>) -> Box<dyn Sound>| {
+        let memory = GuestMemory::from_ranges(&[(GuestAddress(0), MEMORY)]).unwrap();
+        let wires = Arc::new(Wires::default());
+        (make(memory.clone(), wires.clone()), memory, wires)
+    };
+    for [from, to] in [[original, dropped_in], [dropped_in, original]] {
+        let ((mut from, memory, wires), (mut to, _, _)) = (made(from), made(to));
+        scenario(&mut *from, &memory, &wires, false);
+        let state = from.save_state().unwrap();
+        to.restore_state(&state).unwrap();
+        assert!(to.save_state().unwrap() == state);
     }
 }
 
@@ -295,4 +361,10 @@ fn refusals_become_errors() {
     let mut status = [0; 4];
     device.read(0xa0, &mut status);
     assert_eq!((status[0], status[3]), (0, 0x10));
+    // The same switch refuses a state in which the stream runs.
+    let mut state = device.save_state().unwrap();
+    state[262 + 0xa0] = 2;
+    assert!(matches!(device.restore_state(&state), Err(DeviceError::Other(_))));
+    device.set_playback_fails(false).unwrap();
+    assert!(device.restore_state(&state).is_ok() && device.restore_state(&state[1..]).is_err());
 }

@@ -3,7 +3,7 @@ mod operations;
 mod sides;
 
 use bench::{Times, by_turns, cpu_time, median};
-use operations::{Command, ConfigRead, ConfigWrite, Idle, Operation, Period, Pieces, Read, Save, Write};
+use operations::{Command, ConfigRead, ConfigWrite, Idle, Operation, Period, Pieces, Read, Restore, Save, Write};
 use sides::{Port, Rust, Side};
 use std::hint::black_box;
 
@@ -33,6 +33,8 @@ fn main() {
     row(clock, "advance without a turn", None, Idle);
     row(clock, "save, none pending", Some(1.0 / 1.5), Save { pending: 0 });
     row(clock, "save, 1,000 pending", Some(1.0 / 1.5), Save { pending: 1000 });
+    row(clock, "restore, none pending", Some(1.0 / 3.0), Restore { pending: 0 });
+    row(clock, "restore, 1,000 pending", Some(1.0 / 3.0), Restore { pending: 1000 });
 }
 
 /// Nanoseconds between two looks at the clock with nothing in between.

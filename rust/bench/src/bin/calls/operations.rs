@@ -235,18 +235,45 @@ pub struct Save {
     pub pending: usize,
 }
 
+/// A device with positions pending, whose playback then runs.
+fn hold(side: &mut impl Side, pending: usize) {
+    wake(side);
+    if pending != 0 {
+        start(side, false, PERIOD / FRAME, FRAME);
+        fill(side, (FRAME * pending - PERIOD) as u32, 1);
+    }
+}
+
 impl Operation for Save {
     const TIMES: usize = 8;
 
     fn set_up(&self, side: &mut impl Side) {
-        wake(side);
-        if self.pending != 0 {
-            start(side, false, PERIOD / FRAME, FRAME);
-            fill(side, (FRAME * self.pending - PERIOD) as u32, 1);
-        }
+        hold(side, self.pending);
     }
     fn run(&self, side: &mut impl Side, _: usize) -> usize {
         side.save()
+    }
+    fn pending(&self) -> Option<usize> {
+        Some(self.pending)
+    }
+}
+
+/// The device takes its own state.
+pub struct Restore {
+    /// As for [`Save`].
+    pub pending: usize,
+}
+
+impl Operation for Restore {
+    const TIMES: usize = 8;
+
+    fn set_up(&self, side: &mut impl Side) {
+        hold(side, self.pending);
+        side.keep();
+    }
+    fn run(&self, side: &mut impl Side, _: usize) -> usize {
+        side.restore();
+        0
     }
     fn pending(&self) -> Option<usize> {
         Some(self.pending)

@@ -27,6 +27,9 @@ pub trait Side {
     /// Saves as the side's caller would, and gives the length.
     fn save(&mut self) -> usize;
     fn saved(&mut self) -> Vec<u8>;
+    /// Keeps its state, which `restore` then takes.
+    fn keep(&mut self);
+    fn restore(&mut self);
     fn memory(&mut self) -> &mut [u8];
     /// The bytes queued, for capture and for playback.
     fn queues(&self) -> [Vec<u8>; 2];
@@ -36,11 +39,12 @@ pub struct Port {
     machine: Machine,
     memory: Vec<u8>,
     state: Vec<u8>,
+    kept: Vec<u8>,
 }
 
 impl Side for Port {
     fn new() -> Self {
-        Self { machine: Machine::new(true), memory: vec![0; MEMORY], state: vec![0; MAX_STATE] }
+        Self { machine: Machine::new(true), memory: vec![0; MEMORY], state: vec![0; MAX_STATE], kept: Vec::new() }
     }
     fn advance(&mut self, nanos: u64) {
         assert_eq!(self.machine.advance(&mut self.memory, nanos).number, 0);
@@ -72,6 +76,12 @@ impl Side for Port {
     fn saved(&mut self) -> Vec<u8> {
         self.machine.saved().1
     }
+    fn keep(&mut self) {
+        self.kept = self.saved();
+    }
+    fn restore(&mut self) {
+        assert_eq!(self.machine.restore(&self.kept).number, 0);
+    }
     fn memory(&mut self) -> &mut [u8] {
         &mut self.memory
     }
@@ -80,7 +90,7 @@ impl Side for Port {
     }
 }
 
-/// Both host queues; these operations open each stream once.
+/// Both host queues.
 #[derive(Default)]
 struct Host {
     queues: [Mutex<VecDeque<u8>>; 2],
@@ -129,6 +139,7 @@ impl CaptureSource for Stream {
     }
 }
 
+/// Each opening empties the queue.
 struct Opener(Arc<Host>);
 
 impl HostAudio for Opener {
@@ -136,9 +147,11 @@ impl HostAudio for Opener {
         "bench"
     }
     fn open_playback(&self, _: AudioFormat) -> Result<Box<dyn PlaybackSink>, DeviceError> {
+        self.0.queue(1).clear();
         Ok(Box::new(Stream(self.0.clone())))
     }
     fn open_capture(&self, _: AudioFormat) -> Result<Box<dyn CaptureSource>, DeviceError> {
+        self.0.queue(0).clear();
         Ok(Box::new(Stream(self.0.clone())))
     }
 }
@@ -153,6 +166,7 @@ pub struct Rust {
     device: Hda,
     host: Arc<Host>,
     memory: GuestMemory,
+    kept: Vec<u8>,
 }
 
 /// The device as the hypervisor has it: behind traits.
@@ -173,7 +187,7 @@ impl Side for Rust {
         let memory = GuestMemory::from_ranges(&[(GuestAddress(0), MEMORY)]).unwrap();
         let host = Arc::new(Host::default());
         let device = Hda::new("hda", memory.clone(), Arc::new(Opener(host.clone())), Arc::new(NoMessages), None, true);
-        Self { device, host, memory }
+        Self { device, host, memory, kept: Vec::new() }
     }
     fn advance(&mut self, nanos: u64) {
         self.clock().advance(Duration::from_nanos(nanos)).unwrap();
@@ -206,6 +220,13 @@ impl Side for Rust {
     }
     fn saved(&mut self) -> Vec<u8> {
         self.snapshot().save_state().unwrap()
+    }
+    fn keep(&mut self) {
+        self.kept = self.saved();
+    }
+    fn restore(&mut self) {
+        let device: &mut dyn Snapshot = black_box(&mut self.device);
+        device.restore_state(&self.kept).unwrap();
     }
     fn memory(&mut self) -> &mut [u8] {
         let start = self.memory.get_host_address(GuestAddress(0)).unwrap();
