@@ -1,0 +1,4 @@
+pub mod Digest
+pub mod Noise
+pub mod Recorded
+pub mod Calls

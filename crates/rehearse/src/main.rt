@@ -1,0 +1,71 @@
+// Runs recorded calls of the unchanged Rust device on the proved device, with no Rust at hand. The file `calls` has sequences of calls, each with
+// what the Rust returned and a digest of all that it then held (src/call.rt); `judge record` of rust/harness writes it. The line that is printed says
+// that all were as recorded, or which was the first that was not.
+//
+// No contract can say what a file holds. So what a call gives is stated in calls.rt, digest.rt, noise.rt and verdict.rt, and of what reads and prints
+// it is proved that it is safe and ends.
+mod call;
+mod calls;
+mod digest;
+mod noise;
+mod play;
+mod verdict;
+
+ghost use mathlib.Core.Path.{_≡_};
+ghost use lib.ListN.{length};
+use libc::STDOUT_FILENO;
+use play::Tally;
+
+fn main() {
+    let path = b"calls";
+    let file = os::open_read(path);
+    if file < 0 {
+        os::fail(path);
+        return;
+    }
+    let mut data = room();
+    let count = io::read_full(file, &mut data);
+    libc::close(file);
+    rehearse(&data[..count]);
+}
+
+// Zeros, for a file of at most as many bytes. The `ensures` gives the length alone, which lending the array as a slice needs.
+fn room() -> [u8; 1048576]
+    ensures { λ r. ⌜ 1048576 ≡ length r ⌝ }
+{
+    [0; 1048576]
+}
+
+// The spaces that calls are lent: records, lists, queues, guest memory, and room for what a call reads.
+fn rehearse(data: &[u8]) {
+    let mut device: [u8; 749] = [0; 749];
+    let mut host: [u8; 16] = [0; 16];
+    let mut lists: [u8; 69632] = [0; 69632];
+    let mut queues: [u8; 4096] = [0; 4096];
+    let mut memory: [u8; 262144] = [0; 262144];
+    let mut room: [u8; 70380] = [0; 70380];
+    let tally = play::play(
+        data,
+        &mut device,
+        &mut host,
+        &mut lists,
+        &mut queues,
+        &mut memory,
+        &mut room,
+    );
+    print(tally);
+}
+
+fn print(tally: Tally) {
+    io::print_decimal(STDOUT_FILENO, tally.calls);
+    io::write_all(STDOUT_FILENO, b" calls in ");
+    io::print_decimal(STDOUT_FILENO, tally.sequences);
+    if tally.same {
+        io::write_all(STDOUT_FILENO, b" sequences: all as recorded\n");
+    } else {
+        io::write_all(
+            STDOUT_FILENO,
+            b" sequences as recorded, then one that differs\n",
+        );
+    }
+}

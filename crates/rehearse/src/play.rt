@@ -1,0 +1,92 @@
+// All recorded calls in their order, up to the first that is not as recorded.
+use crate::call;
+use crate::call::Call;
+use crate::verdict;
+ghost use mathlib.Core.Path.{_≡_};
+ghost use Rattle.rehearse.specs.Recorded.{countedOf, lengthOf};
+
+// How many calls and sequences there were, and whether all were as recorded.
+pub struct Tally {
+    pub calls: u64,
+    pub sequences: u64,
+    pub same: bool,
+}
+
+impl Tally {
+    // One call more; kind 0 starts a sequence.
+    fn counted(self, kind: u8, same: bool) -> Tally
+        ensures { λ r. ⌜ r ≡ countedOf self kind same ⌝ }
+    {
+        let calls = std::num::wrapping_add_u64(self.calls, 1);
+        if kind == 0 {
+            return Tally {
+                calls,
+                sequences: std::num::wrapping_add_u64(self.sequences, 1),
+                same,
+            };
+        }
+        Tally {
+            calls,
+            sequences: self.sequences,
+            same,
+        }
+    }
+}
+
+// Kind 1 says how long guest memory is from then on.
+fn length_of(call: Call, length: usize) -> usize
+    ensures { λ r. ⌜ r ≡ lengthOf call length ⌝ }
+{
+    if call.kind == 1 {
+        return call.first as usize;
+    }
+    length
+}
+
+pub fn play(
+    all: &[u8],
+    device: &mut [u8],
+    host: &mut [u8],
+    lists: &mut [u8],
+    queues: &mut [u8],
+    memory: &mut [u8],
+    room: &mut [u8],
+) -> Tally {
+    let mut tally = Tally {
+        calls: 0,
+        sequences: 0,
+        same: true,
+    };
+    let mut length = 0;
+    let mut at = 0;
+    while at < all.len() {
+        if all.len() - at < call::HEAD {
+            return tally.counted(255, false);
+        }
+        let call = call::load(all, at);
+        let start = at + call::HEAD;
+        let count = call.count as usize;
+        if all.len() - start < count {
+            return tally.counted(255, false);
+        }
+        let end = start + count;
+        length = length_of(call, length);
+        let same = verdict::judge(
+            call,
+            &all[start..end],
+            device,
+            host,
+            lists,
+            queues,
+            memory,
+            room,
+            length,
+        );
+        tally = tally.counted(call.kind, same);
+        if !same {
+            return tally;
+        }
+        at = end;
+    }
+    tally
+}
