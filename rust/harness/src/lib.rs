@@ -8,6 +8,7 @@ pub mod host;
 pub mod lockstep;
 pub mod ops;
 pub mod ported;
+pub mod record;
 pub mod shrink;
 pub mod side;
 pub mod state;

@@ -5,11 +5,13 @@ use harness::generate::Generator;
 use harness::lockstep::{DEFAULT_MEMORY, InStep, Lockstep, Parting, Run, run_ops, run_seed};
 use harness::ops::{Op, execute, number, parse_log, result_line};
 use harness::ported::Port;
+use harness::record;
 use harness::shrink::shrink;
 use harness::side::Side;
 use harness::trace;
 use harness::trio::Trio;
 use std::collections::BTreeMap;
+use std::io::Write as _;
 use std::process::ExitCode;
 use std::time::{Duration, Instant};
 
@@ -29,6 +31,8 @@ judge run FILE [--side reference|amended|port]
     Runs an op log and prints each call with its result.
 judge trace FILE [--port]
     Replays a driver's trace, with time passing between its lines.
+judge record FILE
+    Writes the calls that program rehearse runs, with the reference's answers: generated sequences, then the trace of FILE.
 judge --help";
 
 /// Unexplained partings that are shown in full.
@@ -86,6 +90,13 @@ fn compare<T: InStep>(mut options: Options) -> Result<bool, String> {
             let text = read(&options.word()?)?;
             options.end()?;
             replay::<T>(&text)
+        }
+        "record" => {
+            let text = read(&options.word()?)?;
+            options.end()?;
+            let data = record::record(&text)?;
+            std::io::stdout().write_all(&data).map_err(|error| error.to_string())?;
+            Ok(true)
         }
         "--help" | "help" => {
             println!("{USAGE}");
