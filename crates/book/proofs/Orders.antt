@@ -1,6 +1,6 @@
 -- Rising lists: what the book retires by a test of each position is what the device retires from the front. Assumes nothing.
-use Prim.Native.Nat.{ℕ, _+_, _≤_}
-use mathlib.Core.Path.{_≡_, refl, ap}
+use Prim.Native.Nat.{ℕ, _+_, _≤_, _<_}
+use mathlib.Core.Path.{_≡_, refl, sym, ap}
 use mathlib.Core.Bool.{Bool, true, false, cond, _&&_, and-eq-true-iff}
 use mathlib.Core.List.{List, [], _∷_, _++_}
 use native.Mathlib.Omega.{arith}
@@ -21,10 +21,37 @@ rises-all lo (p ∷ ps) hi h e =
     let b = and-eq-true-iff (leb p hi) (risesOf p ps hi) .0 (a .1) in
     (ltb-true lo p (a .0), rises-all p ps hi (leb-true p hi (b .0)) (b .1))
 
+pub rises-same : {lo lo′ hi hi′ : ℕ} {ps ps′ : List ℕ} → lo ≡ lo′ → ps ≡ ps′ → hi ≡ hi′ → Rises lo ps hi → Rises lo′ ps′ hi′
+rises-same a b c r = rw (sym a, sym b, sym c) r
+
+-- from further down, its bounds, and one list behind another
+rises-from : (lo mid : ℕ) (ps : List ℕ) (hi : ℕ) → lo ≤ mid → Rises mid ps hi → Rises lo ps hi
+rises-from lo mid [] hi h r = omega (arith, h, r)
+rises-from lo mid (p ∷ ps) hi h r = (omega (arith, h, r .0), r .1)
+
+pub rises-room : (lo : ℕ) (ps : List ℕ) (hi : ℕ) → Rises lo ps hi → lo ≤ hi
+rises-room lo [] hi r = r
+rises-room lo (p ∷ ps) hi r = omega (arith, r .0, rises-room p ps hi (r .1))
+
+pub rises-append : (lo : ℕ) (ps : List ℕ) (mid : ℕ) (qs : List ℕ) (hi : ℕ) → Rises lo ps mid → Rises mid qs hi → Rises lo (ps ++ qs) hi
+rises-append lo [] mid qs hi r t = rises-from lo mid qs hi r t
+rises-append lo (p ∷ ps) mid qs hi r t = (r .0, rises-append p ps mid qs hi (r .1) t)
+
 -- where all are above c
 none-up : (c lo : ℕ) (ps : List ℕ) (hi : ℕ) → c ≤ lo → Rises lo ps hi → upTo c ps ≡ []
 none-up c lo [] hi h r = refl
 none-up c lo (p ∷ ps) hi h r = rw (lt-leb p c (omega (arith, r .0)), none-up c p ps hi (omega (arith, r .0)) (r .1))
+
+up-step : (b : Bool) (c lo p : ℕ) (ps : List ℕ) → lo ≤ c → lo < p → (b ≡ true → Rises p (upTo c ps) c) → (b ≡ false → upTo c ps ≡ [])
+    → Rises lo (cond b (p ∷ upTo c ps) (upTo c ps)) c
+up-step true c lo p ps h k f g = (k, f refl)
+up-step false c lo p ps h k f g = rw (g refl) h
+
+-- those up to c
+pub up-rises : (c lo : ℕ) (ps : List ℕ) (hi : ℕ) → lo ≤ c → Rises lo ps hi → Rises lo (upTo c ps) c
+up-rises c lo [] hi h r = h
+up-rises c lo (p ∷ ps) hi h r =
+    up-step (leb p c) c lo p ps h (r .0) (λ e. up-rises c p ps hi (leb-true p c e) (r .1)) (λ e. none-up c p ps hi (omega (arith, leb-false p c e)) (r .1))
 
 all-above : (c lo : ℕ) (ps : List ℕ) (hi : ℕ) → c ≤ lo → Rises lo ps hi → above c ps ≡ ps
 all-above c lo [] hi h r = refl

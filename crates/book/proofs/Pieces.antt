@@ -50,6 +50,7 @@ module _ (F : Type 0) (g : Cyclic) (count : ℕ) (short : count ≤ 1024) (byte 
           consumed = r .consumed;
           pending = r .pending;
           exact = r .exact;
+          past = r .past;
           spaced = r .spaced;
           never = λ f. absurd (not-full x a more t e f);
         };

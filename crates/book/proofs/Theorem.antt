@@ -19,7 +19,7 @@ use Rattle.calls.specs.Calls as calls
 use Rattle.calls.specs.Calls.{after}
 use Rattle.book.specs.Book.{Book}
 use Rattle.book.specs.Lists.{Step, run, allEvents, pendingOf, openingOf, bookOf}
-use Rattle.book.specs.Claim.{Starts, new, restored, made, Accepts, Agrees, NoRestore, Spaced}
+use Rattle.book.specs.Claim.{Rises, Starts, new, restored, made, Accepts, Agrees, NoRestore, Spaced}
 use Rattle.book.proofs.Ghosts.{Ghost, ghost, sees, sees-book, never-full}
 use Rattle.book.proofs.Orders.{rises-all, four-apart}
 use Rattle.book.proofs.Tied.{tied-opening}
@@ -85,6 +85,14 @@ agrees i few cs x start =
       rises = rises-all _ (pendingOf i (run cs x)) _ (v .heard) (v .rises);
       exact = subst (λ (b : Book). b .ends ≡ b .retired ++ b .pending) same (t .exact);
     }
+
+-- the retired positions rise strictly and none is above consumed
+pub past : (i : ℕ) → i < streams → (cs : List Step) (x : Machine) → Starts x → Rises 0 (bookOf i cs x .retired) (bookOf i cs x .consumed)
+unfolding bookOf
+past i few cs x start =
+    let es = allEvents i cs x in
+    let t = run-held ⊥ i few cs x (opened i x) (λ f. absurd f) (started i few x start) .own in
+    subst (λ (b : Book). Rises 0 (b .retired) (b .consumed)) (sees-book es (opened i x)) (t .past)
 
 pub spaced : (i : ℕ) → i < streams → (cs : List Step) (microphone : Bool) (h : Host) (lists queues memory : List ℕ) → listSize * streams ≤ length lists
     → capacity * streams ≤ length queues → NoRestore cs (made microphone h lists queues memory) → Spaced i cs (made microphone h lists queues memory)

@@ -1,4 +1,4 @@
--- A stream tied to the book: its counts and pending positions are the book's, nothing is lost, it is valid; and, where `F` holds, its positions are 4 apart and the limit
+-- A stream tied to the book: its counts and pending positions are the book's, nothing is lost or retired early, it is valid; and, where `F` holds, its positions are 4 apart and the limit
 -- has stopped no transfer. What each event keeps of it. Assumes nothing.
 use Prim.Native.Nat.{ℕ, _+_, _-_, _≤_, _<_, max}
 use mathlib.Core.Path.{_≡_, refl, sym, ap, subst, _∙_}
@@ -29,7 +29,7 @@ use Rattle.book.specs.Book.{Book, reset, moved, updated, upTo, above, re
 use Rattle.book.specs.Events.{flaggedOf}
 use Rattle.book.specs.Claim.{Rises}
 use Rattle.book.proofs.Ghosts.{Ghost, ghost, see}
-use Rattle.book.proofs.Orders.{rises-all, above-drop, halves}
+use Rattle.book.proofs.Orders.{rises-all, rises-same, rises-append, up-rises, above-drop, halves}
 
 pub record Tied (F : Type 0) (s : Stream) (l : List ℕ) (a : Ghost) : Type 0 where
   pub sized : length l ≡ listSize
@@ -38,6 +38,7 @@ pub record Tied (F : Type 0) (s : Stream) (l : List ℕ) (a : Ghost) : Type 0 wh
   pub consumed : s .consumed ≡ a .book .consumed
   pub pending : positionsOf (s .pending) l ≡ a .book .pending
   pub exact : a .book .ends ≡ a .book .retired ++ a .book .pending
+  pub past : Rises 0 (a .book .retired) (a .book .consumed)
   pub spaced : F → SpacedAt s l
   pub never : F → a .full ≡ false
 
@@ -61,6 +62,10 @@ moved-exact n true b e =
     ap (λ (l : List ℕ). l ++ last) e ∙ append-assoc (b .retired) (b .pending) last
 moved-exact n false b e = e
 
+moved-past : (n : ℕ) (f : Bool) (b : Book) → Rises 0 (b .retired) (b .consumed) → let c = movedBy n f b in Rises 0 (c .retired) (c .consumed)
+moved-past n true b r = r
+moved-past n false b r = r
+
 module _ (F : Type 0) where
   -- another frame time within the limit
   pub tied-times : (s : Stream) (l : List ℕ) (a : Ghost) (fraction : ℕ) → (s .fraction < time → fraction < time) → Tied F s l a → Tied F (withFraction s fraction) l a
@@ -73,6 +78,7 @@ module _ (F : Type 0) where
         consumed = t .consumed;
         pending = t .pending;
         exact = t .exact;
+        past = t .past;
         spaced = t .spaced;
         never = t .never;
       }
@@ -88,6 +94,7 @@ module _ (F : Type 0) where
         consumed = refl;
         pending = refl;
         exact = refl;
+        past = omega arith;
         spaced = λ _. fresh-spaced l;
         never = never;
       }
@@ -96,7 +103,7 @@ module _ (F : Type 0) where
   pub tied-opening : (s : Stream) (l ps : List ℕ) (full : Bool) → length l ≡ listSize → validOf s l ≡ true → positionsOf (s .pending) l ≡ ps → (F → SpacedAt s l)
       → (F → full ≡ false) → Tied F s l (ghost (restoredWith (s .submitted) (s .consumed) ps) full)
   tied-opening s l ps full sized valid e spaced never =
-      record { sized = sized; valid = valid; submitted = refl; consumed = refl; pending = e; exact = refl; spaced = spaced; never = never }
+      record { sized = sized; valid = valid; submitted = refl; consumed = refl; pending = e; exact = refl; past = omega arith; spaced = spaced; never = never }
 
   -- the position update
   pub tied-updated : (s : Stream) (l : List ℕ) (a : Ghost) (latency : ℕ) → Tied F s l a
@@ -122,6 +129,8 @@ module _ (F : Type 0) where
         exact = t .exact
             ∙ ap (λ (ps : List ℕ). b .retired ++ ps) (sym (subst (λ (ps : List ℕ). upTo c′ ps ++ above c′ ps ≡ ps) (t .pending) (halves c′ (s .consumed) view (s .submitted) r)))
             ∙ sym (append-assoc (b .retired) (upTo c′ (b .pending)) (above c′ (b .pending)));
+        past = rises-append 0 (b .retired) (b .consumed) (upTo c′ (b .pending)) c′ (t .past)
+            (up-rises c′ (b .consumed) (b .pending) (s .submitted) (omega arith) (rises-same (t .consumed) (t .pending) refl r));
         spaced = λ f. update-spaced s l latency (v .few) room (t .spaced f);
         never = t .never;
       }
@@ -145,6 +154,7 @@ module _ (F : Type 0) where
               ∙ ap (λ (m : ℕ). b .pending ++ endedOf (m + n) end) (t .submitted)
               ∙ sym (moved-pending n end b);
           exact = moved-exact n (flaggedOf end) b (t .exact);
+          past = moved-past n (flaggedOf end) b (t .past);
           spaced = λ f. moved-spaced g count x at n end k room (t .spaced f);
           never = t .never;
         }

@@ -2,3 +2,4 @@ pub mod Book
 pub mod Events
 pub mod Lists
 pub mod Claim
+pub mod Corollaries

@@ -1,0 +1,10 @@
+-- `corollaries` meets its contract.
+use Rattle.book.proofs.Consequences.{once, told}
+use Rattle.book.proofs.corollaries.Statement.{statement}
+use Rattle.book.proofs.corollaries.Tie as tie
+
+returns : tie.Need-returns
+returns c = record { once = once; told = told }
+
+pub corollaries-spec : {M : Type 1} → statement M
+corollaries-spec = tie.close (tie.spec returns)
