@@ -12,15 +12,18 @@ use Rattle.device.specs.declared.Hda.{Hda}
 use Rattle.device.specs.declared.Answer.{Answer}
 use Rattle.device.specs.Machines.{Machine, Done, machine}
 use Rattle.hda.specs.declared.Made as hda-made
+use Rattle.write.specs.Writes.{writeOf}
 use Rattle.hda.specs.Calls as hda
 use Rattle.record.specs.Layout.{deviceSize}
 use Rattle.record.specs.Devices.{deviceBytes}
 use Rattle.record.specs.Loads.{deviceAt}
+use Rattle.fastpath.specs.Quick.{Tried}
+use Rattle.fastpath.proofs.Tries.{Carried}
 use Rattle.host_record.specs.Hosts.{hostBytes, hostAt}
 use Rattle.host_record.proofs.Theorems.{host-loaded}
 use Rattle.reply.specs.Replies.{replyOf, unreadableOf, isMachine}
 use Rattle.reply.proofs.Records.{machine-host}
-use Rattle.port_device.specs.Calls.{Lent, lent, returned, machineAt, behind, Made, made, madeOf, Stored, storedOut, storedOf, newOf, pausedOf}
+use Rattle.port_device.specs.Calls.{Lent, lent, Returned, returned, machineAt, carriedReply, behind, Made, made, madeOf, Stored, storedOut, storedOf, newOf, pausedOf}
 
 module _ (call : Machine → Done) (x : Lent) where
   pub unreadable-outcome : isMachine (x .device) (x .host) ≡ false → (r : ℕ) → r ≡ unreadableOf (length (x .lists)) (length (x .queues))
@@ -45,6 +48,36 @@ module _ (call : Machine → Done) (x : Lent) where
         let stays : z .answer .host ≡ h = ap (λ (y : Done). y .answer .host) ez ∙ keeps (machine d h (x .lists) (x .queues) (x .memory)) in
         let same : hostBytes (z .answer .host) ≡ x .host = ap hostBytes (stays ∙ eh) ∙ host-loaded (x .host) (machine-host (x .device) (x .host) t) bytes in
         done-outcome r device (x .host) (rw same (ap (λ (s : Made). storedOut (s .reply) (s .device) (x .host)) e))
+
+  -- `y` is what the fast path left of the bytes
+  module _ (t : isMachine (x .device) (x .host) ≡ true) (h : Host) (eh : h ≡ hostAt (x .host)) (y : Tried) where
+    abbrev found : Machine
+    found = machine (deviceAt (x .device)) h (x .lists) (x .queues) (x .memory)
+
+    -- carried out
+    pub carried-outcome : Carried found (call found) y → Bytes (x .host) → (r : ℕ) → r ≡ carriedReply (y .quick)
+        → returned r (lent (y .device) (x .host) (x .lists) (x .queues) (y .memory)) ≡ behind call x
+    unfolding behind
+    carried-outcome c bytes r er =
+        let z : Done = call found in
+        let w = c .whole in
+        let same : call (machineAt x) ≡ z = rw eh in
+        let own : hostBytes (z .answer .host) ≡ x .host = ap hostBytes (c .light .host ∙ eh) ∙ host-loaded (x .host) (machine-host (x .device) (x .host) t) bytes in
+        rw (t, same, own, c .light .number, c .light .lists, c .light .queues, er)
+        (ap (λ (v : Tried). returned (carriedReply (v .quick)) (lent (v .device) (x .host) (x .lists) (x .queues) (v .memory))) w)
+
+    -- left alone: the call on the same bytes
+    pub left-outcome : (y .device ≡ x .device) × (y .memory ≡ x .memory) → (r : Returned)
+        → r ≡ behind call (lent (y .device) (x .host) (x .lists) (x .queues) (y .memory)) → r ≡ behind call x
+    left-outcome l r e = rw (l .0, l .1) at e
+
+    pub left-machine : (y .device ≡ x .device) × (y .memory ≡ x .memory) → isMachine (y .device) (x .host) ≡ true
+    left-machine l = rw (l .0) t
+
+-- base address 0 is the registers
+pub bar-zero : (bar offset : ℕ) (bytes : List ℕ) (x : Lent) → bar ≡ 0 → behind (writeOf offset bytes) x ≡ behind (hda.barWriteOf bar offset bytes) x
+unfolding behind hda.barWriteOf
+bar-zero bar offset bytes x z = rw (eq-eqb bar 0 z)
 
 -- a new device, `m` being what the call answers: refused, no room for a record, and made
 module _ (microphone : Bool) (device : List ℕ) (lists queues : ℕ) (m : hda-made.Made) (e : m ≡ hda.newOf microphone lists queues) where

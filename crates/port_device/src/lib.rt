@@ -1,5 +1,7 @@
-// Calls that change a device, where the caller has its record and that of the host end as bytes. Each returns one number (crate reply).
+// Calls that change a device, where the caller has its record and that of the host end as bytes. Each returns one number (crate reply). Most writes take the fast path
+// (crate fastpath); else the device is taken out of its record, handed on by value, and put back.
 use device::Answer;
+use fastpath::Quick;
 ghost use mathlib.Core.Path.{_≡_};
 ghost use lib.ListN.{length};
 ghost use Rattle.word.specs.Value.{Bytes};
@@ -8,7 +10,7 @@ ghost use Rattle.host_record.specs.Hosts.{hostSize};
 ghost use Rattle.advance.specs.Advance.{advanceOf};
 ghost use Rattle.write.specs.Writes.{writeOf};
 ghost use Rattle.hda.specs.Calls.{barWriteOf, configWriteOf, pinOf};
-ghost use Rattle.port_device.specs.Calls.{lent, returned, made, madeOf, answeredOf, storedOut, storedOf, behind, none, restoredBy, newOf, pausedOf};
+ghost use Rattle.port_device.specs.Calls.{lent, returned, made, madeOf, answeredOf, carriedReply, storedOut, storedOf, behind, none, restoredBy, newOf, pausedOf};
 
 // What is returned for an answer.
 fn answered(a: Answer) -> u64
@@ -16,6 +18,14 @@ fn answered(a: Answer) -> u64
 {
     let msi = a.msi;
     reply::reply(a.number, a.level, reply::is_sent(msi), 0)
+}
+
+// What is returned for a write that the fast path carried out.
+fn carried(q: Quick) -> u64
+    ensures { λ r. ⌜ r ≡ carriedReply q ⌝ }
+{
+    let msi = q.msi;
+    reply::reply(0, q.level, reply::is_sent(msi), 0)
 }
 
 // The answer's device into its record; the host end stayed as it was.
@@ -89,8 +99,12 @@ pub fn write(
     if !reply::is_machine(device, host) {
         return reply::unreadable(lists.len(), queues.len());
     }
-    let d = record::load_device(device);
     let h = host_record::load_host(host);
+    let quick = fastpath::write(device, h, lists, queues, memory, offset, bytes);
+    if quick.done {
+        return carried(quick);
+    }
+    let d = record::load_device(device);
     let a = write::write(d, h, lists, queues, memory, offset, bytes);
     stored(a, device, host)
 }
@@ -108,6 +122,9 @@ pub fn bar_write(
 ) -> u64
     ensures { λ r. ⌜ returned r (lent (now (device .exit)) (now (host .exit)) (now (lists .entry)) (now (queues .entry)) (now (memory .exit))) ≡ behind (barWriteOf bar offset (now (bytes .entry))) (lent (now (device .entry)) (now (host .entry)) (now (lists .entry)) (now (queues .entry)) (now (memory .entry))) ⌝ }
 {
+    if bar == 0 {
+        return write(device, host, lists, queues, memory, offset, bytes);
+    }
     if !reply::is_machine(device, host) {
         return reply::unreadable(lists.len(), queues.len());
     }
@@ -133,8 +150,12 @@ pub fn config_write(
     if !reply::is_machine(device, host) {
         return reply::unreadable(lists.len(), queues.len());
     }
-    let d = record::load_device(device);
     let h = host_record::load_host(host);
+    let quick = fastpath::config_write(device, h, lists, queues, memory, register, offset, bytes);
+    if quick.done {
+        return carried(quick);
+    }
+    let d = record::load_device(device);
     let a = hda::config_write(d, h, lists, queues, memory, register, offset, bytes);
     kept(a, device)
 }

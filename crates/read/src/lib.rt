@@ -63,7 +63,7 @@ fn valid(device: &[u8], lists: &[u8]) -> bool
 }
 
 // 10 for short lent space, 9 for a device or host end that breaks a condition, else 0.
-fn check(device: &[u8], host: Host, lists: &[u8], queues: usize) -> u32
+pub fn check(device: &[u8], host: Host, lists: &[u8], queues: usize) -> u32
     requires { ⌜ length (now device) ≡ deviceSize ⌝ }
     ensures { λ r. ⌜ r ≡ checkOf (deviceAt (now (device .entry))) host (now (lists .entry)) queues ⌝ }
 {

@@ -73,18 +73,18 @@ module _ (b : List ℕ) (at : ℕ) (fits : at + 144 ≤ length b) where
 
 -- ---- a device's bytes
 -- what stands behind the head
-abbrev tailOf : Hda → List ℕ
+abbrev pub tailOf : Hda → List ℕ
 tailOf d = streamsBytes streams 0 d ++ flag (d .asserted) ∷ []
 
 -- .. behind the codec
-abbrev timesOf : Hda → List ℕ
+abbrev pub timesOf : Hda → List ℕ
 timesOf d = bytesOf 8 (d .clock .ticks) ++ (bytesOf 8 (d .clock .fraction) ++ (bytesOf 2 (d .link .responses) ++ tailOf d))
 
 -- .. and behind the flags
-abbrev filesOf : Hda → List ℕ
+abbrev pub filesOf : Hda → List ℕ
 filesOf d = d .config ++ (d .regs ++ (recordsOf (d .link .codec) ++ timesOf d))
 
-regrouped : (d : Hda) → deviceBytes d ≡ mark ++ (flag (d .microphone) ∷ flag (d .paused) ∷ filesOf d)
+pub regrouped : (d : Hda) → deviceBytes d ≡ mark ++ (flag (d .microphone) ∷ flag (d .paused) ∷ filesOf d)
 unfolding deviceBytes headOf
 regrouped d = simp append-assoc
 

@@ -6,6 +6,7 @@ use Rattle.word.specs.Value.{bytesOf}
 use Rattle.codec.specs.Bytes.{recordsOf}
 use Rattle.stream.specs.declared.Stream.{Stream}
 use Rattle.stream.specs.Box.{streams}
+use Rattle.rings.specs.declared.Link.{Link}
 use Rattle.device.specs.declared.Hda.{Hda}
 use Rattle.device.specs.Devices as devices
 use Rattle.record.specs.Rows.{runsOf}
@@ -39,3 +40,7 @@ streamsBytes n i d = runsOf (λ k. numbersOf (devices.streamAt d k)) n i
 
 unfoldable pub deviceBytes : Hda → List ℕ
 deviceBytes d = headOf d ++ (streamsBytes streams 0 d ++ flag (d .asserted) ∷ [])
+
+-- a device with other files, link and message latch
+abbrev pub replacedIn : Hda → List ℕ → List ℕ → Link → Bool → Hda
+replacedIn d config regs link asserted = devices.hda config regs link (d .streams) (d .clock) (d .microphone) (d .paused) asserted

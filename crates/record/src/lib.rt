@@ -1,17 +1,20 @@
 // The device as bytes (docs/LAYOUT.md): the record that crosses the C boundary. It begins as a saved state does, so that both are written by the same functions.
 use clock::Clock;
 use codec::Codec;
+use configuration::Config;
 use device::Hda;
+use registers::Registers;
 use rings::Link;
 use stream::STREAMS;
 use stream::Stream;
 ghost use mathlib.Core.Path.{_≡_};
+ghost use mathlib.Core.Bool.{true};
 ghost use Prim.Native.Nat.{_+_, _*_, _≤_, _<_};
 ghost use lib.ListN.{length};
 ghost use Rattle.word.specs.Place.{putAt, storeAt};
 ghost use Rattle.stream.specs.Box.{streams};
-ghost use Rattle.record.specs.Layout.{deviceSize};
-ghost use Rattle.record.specs.Devices.{flag, linkBytes, headOf, countsOf, numbersOf, streamsBytes, deviceBytes};
+ghost use Rattle.record.specs.Layout.{latchPlace, deviceSize};
+ghost use Rattle.record.specs.Devices.{flag, linkBytes, headOf, countsOf, numbersOf, streamsBytes, deviceBytes, replacedIn};
 ghost use Rattle.record.specs.Loads.{flagAt, isFlagAt, markedOf, blockAt, linkAt, clockAt, streamAt, streamsAt, deviceAt, isDevice};
 
 // Bytes of a state or a device record before its streams, and of a stream's numbers in it.
@@ -115,6 +118,33 @@ pub fn store_device(hda: Hda, into: &mut [u8])
     put_head(hda, into);
     put_streams(hda, into);
     into[LATCH] = flag_byte(hda.asserted);
+}
+
+// A device in its record with other files, link and message latch; its streams, its clock and the two flags stay where they are.
+pub fn replace(
+    into: &mut [u8],
+    config: &Config,
+    regs: &Registers,
+    link: Link,
+    asserted: bool,
+)
+    requires { ⌜ (length (now into) ≡ deviceSize) × (isDevice (now into) ≡ true) ⌝ }
+    ensures { λ _. ⌜ now (into .exit) ≡ deviceBytes (replacedIn (deviceAt (now (into .entry))) (now (config .entry)) (now (regs .entry)) link asserted) ⌝ }
+{
+    put(into, 6, config);
+    put(into, 262, regs);
+    let codec = link.codec;
+    codec.store(into, 518);
+    put_low(into, 678, link.responses);
+    into[LATCH] = flag_byte(asserted);
+}
+
+// Whether the device in a record has a message asserted.
+pub fn is_asserted(from: &[u8]) -> bool
+    requires { ⌜ deviceSize ≤ length (now from) ⌝ }
+    ensures { λ r. ⌜ r ≡ flagAt latchPlace (now (from .entry)) ⌝ }
+{
+    from[LATCH] == 1
 }
 
 // Whether a state or a record begins with its letters.

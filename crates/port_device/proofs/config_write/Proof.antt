@@ -1,12 +1,15 @@
--- `config_write` is `behind` `configWriteOf`: unreadable, or the call on what the records hold, which leaves the host end.
+-- `config_write` is `behind` `configWriteOf`: unreadable, carried out by the fast path, or the call on what the records hold, which leaves the host end.
 use mathlib.Core.Path.{sym, _∙_}
 use borrow.Author.Needs.{needs}
 use borrow.Author.Tests.{not-true, not-false}
-use Rattle.device.specs.Machines.{doneOf}
+use Rattle.device.specs.Machines.{machine, doneOf}
 use Rattle.hda.specs.Calls.{configWriteOf}
-use Rattle.reply.proofs.Records.{device-sized, device-fits, host-fits}
-use Rattle.port_device.specs.Calls.{lent}
-use Rattle.port_device.proofs.Outcomes.{unreadable-outcome, kept-outcome}
+use Rattle.record.specs.Loads.{deviceAt}
+use Rattle.fastpath.specs.Quick.{tried}
+use Rattle.fastpath.proofs.Tries.{config-kept, config-carried}
+use Rattle.reply.proofs.Records.{machine-device, device-sized, device-fits, host-fits}
+use Rattle.port_device.specs.Calls.{lent, returned}
+use Rattle.port_device.proofs.Outcomes.{unreadable-outcome, kept-outcome, carried-outcome, left-outcome, left-machine}
 use Rattle.port_device.proofs.Keeps.{config-keeps}
 use Rattle.port_device.proofs.config_write.Statement.{statement}
 use Rattle.port_device.proofs.config_write.Tie as tie
@@ -18,42 +21,80 @@ returns c =
     unreadable-outcome (configWriteOf (a .register) (a .offset) (a .bytes .now)) (lent (a .device .now) (a .host .now) (a .lists .now) (a .queues .now) (a .memory .now))
     (sym (t .before .is-machine .ensures) ∙ not-true _ (t .if1 .taken)) (c .unreadable .result) (c .unreadable .ensures)
 
-load-device-requires : tie.Need-load-device-requires
-load-device-requires c κs =
-    let t = c .before in
-    let a = t .before .before .before .before .before .before .before .before .before .args in
-    device-fits (a .device .now) (a .host .now) (sym (t .before .is-machine .ensures) ∙ not-false _ (t .if1 .left))
-
 load-host-requires : tie.Need-load-host-requires
 load-host-requires c κs =
-    let t = c .before .before in
-    let a = t .before .before .before .before .before .before .before .before .before .args in
-    host-fits (a .device .now) (a .host .now) (sym (t .before .is-machine .ensures) ∙ not-false _ (t .if1 .left))
+    let a = c .before .before .before .before .before .before .before .before .before .args in
+    host-fits (a .device .now) (a .host .now) (sym (c .before .is-machine .ensures) ∙ not-false _ (c .if1 .left))
 
-kept-requires : tie.Need-kept-requires
-kept-requires c κs =
-    let t = c .before .before .before .before .before .before .before .before in
+config-write-requires : tie.Need-config-write-requires
+config-write-requires c κs =
+    let t = c .before .before .before in
     let a = t .before .before .before .before .before .before .before .before .before .args in
-    device-sized (a .device .now) (a .host .now) (sym (t .before .is-machine .ensures) ∙ not-false _ (t .if1 .left))
+    let r = sym (t .before .is-machine .ensures) ∙ not-false _ (t .if1 .left) in
+    (device-sized (a .device .now) (a .host .now) r, machine-device (a .device .now) (a .host .now) r)
 
 returns-2 : tie.Need-returns-2
 returns-2 c =
-    let s = c .before .before .kept in
-    let called = c .before .before .before .before .before .before in
-    let k = called .config-write in
-    let h = called .before .before .load-host in
-    let d = called .before .before .before .load-device in
-    let t = called .before .before .before .before .before in
+    let q = c .before .before .before .before .before .before .config-write in
+    let h = c .before .before .before .before .before .before .before .before .before .load-host in
+    let t = c .before .before .before .before .before .before .before .before .before .before in
     let a = t .before .before .before .before .before .before .before .before .before .args in
-    kept-outcome (configWriteOf (a .register) (a .offset) (a .bytes .now)) (lent (a .device .now) (a .host .now) (a .lists .now) (a .queues .now) (a .memory .now))
-    (sym (t .before .is-machine .ensures) ∙ not-false _ (t .if1 .left)) (d .result) (h .result) (d .ensures) (h .ensures)
+    carried-outcome (configWriteOf (a .register) (a .offset) (a .bytes .now)) (lent (a .device .now) (a .host .now) (a .lists .now) (a .queues .now) (a .memory .now))
+    (sym (t .before .is-machine .ensures) ∙ not-false _ (t .if1 .left)) (h .result) (h .ensures) (tried (q .result) (q .last .0) (q .last .1 .1 .1 .1 .0))
+    (config-carried (a .register) (a .offset) (a .bytes .now) (a .device .now) (machine (deviceAt (a .device .now)) (h .result) (a .lists .now) (a .queues .now) (a .memory .now)) (tried (q .result) (q .last .0) (q .last .1 .1 .1 .1 .0)) (q .ensures) (c .before .if2 .taken))
+    (λ i. t .before .before .before .before .before .before .before .shared-slice-known .given i .fits) (c .carried .result) (c .carried .ensures)
+
+load-device-requires : tie.Need-load-device-requires
+load-device-requires c κs =
+    let q = c .before .before .before .before .before .before .config-write in
+    let h = c .before .before .before .before .before .before .before .before .before .load-host in
+    let t = c .before .before .before .before .before .before .before .before .before .before in
+    let a = t .before .before .before .before .before .before .before .before .before .args in
+    device-fits (q .last .0) (a .host .now)
+    (left-machine (configWriteOf (a .register) (a .offset) (a .bytes .now)) (lent (a .device .now) (a .host .now) (a .lists .now) (a .queues .now) (a .memory .now)) (sym (t .before .is-machine .ensures) ∙ not-false _ (t .if1 .left)) (h .result) (h .ensures) (tried (q .result) (q .last .0) (q .last .1 .1 .1 .1 .0))
+    (config-kept (a .register) (a .offset) (a .bytes .now) (a .device .now) (machine (deviceAt (a .device .now)) (h .result) (a .lists .now) (a .queues .now) (a .memory .now)) (tried (q .result) (q .last .0) (q .last .1 .1 .1 .1 .0)) (q .ensures) (c .before .if2 .left)))
+
+kept-requires : tie.Need-kept-requires
+kept-requires c κs =
+    let q = c .before .before .before .before .before .before .before .before .before .before .before .before .config-write in
+    let h = c .before .before .before .before .before .before .before .before .before .before .before .before .before .before .before .load-host in
+    let t = c .before .before .before .before .before .before .before .before .before .before .before .before .before .before .before .before in
+    let a = t .before .before .before .before .before .before .before .before .before .args in
+    device-sized (q .last .0) (a .host .now)
+    (left-machine (configWriteOf (a .register) (a .offset) (a .bytes .now)) (lent (a .device .now) (a .host .now) (a .lists .now) (a .queues .now) (a .memory .now)) (sym (t .before .is-machine .ensures) ∙ not-false _ (t .if1 .left)) (h .result) (h .ensures) (tried (q .result) (q .last .0) (q .last .1 .1 .1 .1 .0))
+    (config-kept (a .register) (a .offset) (a .bytes .now) (a .device .now) (machine (deviceAt (a .device .now)) (h .result) (a .lists .now) (a .queues .now) (a .memory .now)) (tried (q .result) (q .last .0) (q .last .1 .1 .1 .1 .0)) (q .ensures) (c .before .before .before .before .before .before .before .if2 .left)))
+
+returns-3 : tie.Need-returns-3
+returns-3 c =
+    let s = c .before .before .kept in
+    let k = c .before .before .before .before .before .before .config-write2 in
+    let d = c .before .before .before .before .before .before .before .before .load-device in
+    let q = c .before .before .before .before .before .before .before .before .before .before .before .before .before .before .before .config-write in
+    let h = c .before .before .before .before .before .before .before .before .before .before .before .before .before .before .before .before .before .before .load-host in
+    let t = c .before .before .before .before .before .before .before .before .before .before .before .before .before .before .before .before .before .before .before in
+    let a = t .before .before .before .before .before .before .before .before .before .args in
+    let m = sym (t .before .is-machine .ensures) ∙ not-false _ (t .if1 .left) in
+    let l = config-kept (a .register) (a .offset) (a .bytes .now) (a .device .now) (machine (deviceAt (a .device .now)) (h .result) (a .lists .now) (a .queues .now) (a .memory .now)) (tried (q .result) (q .last .0) (q .last .1 .1 .1 .1 .0)) (q .ensures) (c .before .before .before .before .before .before .before .before .before .before .if2 .left) in
+    left-outcome (configWriteOf (a .register) (a .offset) (a .bytes .now)) (lent (a .device .now) (a .host .now) (a .lists .now) (a .queues .now) (a .memory .now)) m (h .result) (h .ensures) (tried (q .result) (q .last .0) (q .last .1 .1 .1 .1 .0)) l
+    (returned (s .result) (lent (s .last .1 .0) (a .host .now) (a .lists .now) (a .queues .now) (k .last .1 .1 .1 .1 .0)))
+    (kept-outcome (configWriteOf (a .register) (a .offset) (a .bytes .now)) (lent (q .last .0) (a .host .now) (a .lists .now) (a .queues .now) (q .last .1 .1 .1 .1 .0))
+    (left-machine (configWriteOf (a .register) (a .offset) (a .bytes .now)) (lent (a .device .now) (a .host .now) (a .lists .now) (a .queues .now) (a .memory .now)) m (h .result) (h .ensures) (tried (q .result) (q .last .0) (q .last .1 .1 .1 .1 .0)) l) (d .result) (h .result) (d .ensures) (h .ensures)
     (doneOf (k .result) (a .lists .now) (a .queues .now) (k .last .1 .1 .1 .1 .0)) (k .ensures)
-    (config-keeps (a .register) (a .offset) (a .bytes .now)) (λ i. t .before .before .before .before .before .before .before .shared-slice-known .given i .fits) (s .result) (s .last .1 .0) (s .ensures)
+    (config-keeps (a .register) (a .offset) (a .bytes .now)) (λ i. t .before .before .before .before .before .before .before .shared-slice-known .given i .fits) (s .result) (s .last .1 .0) (s .ensures))
 
 pub config-write-spec : {M : Type 1} → statement M
 config-write-spec =
     tie.close
     (tie.spec
     -- the calls that ask nothing, and the slices' lengths
-    (λ c κs. search needs) (λ c κs. search needs) (λ c. search needs) returns load-device-requires load-host-requires (λ c κs. search needs) kept-requires
-    (λ c. search needs) (λ c. search needs) returns-2)
+    (λ c κs. search needs) (λ c κs. search needs) (λ c. search needs)
+    returns
+    load-host-requires
+    config-write-requires
+    (λ c κs. search needs) (λ c. search needs) (λ c. search needs)
+    returns-2
+    load-device-requires
+    (λ c κs. search needs)
+    kept-requires
+    (λ c. search needs) (λ c. search needs)
+    returns-3)

@@ -1,0 +1,161 @@
+// The fast path of a guest's writes, where the device stands in its record. A write that resets, starts and stops nothing changes the registers, the configuration, the
+// codec and the message latch alone: these are taken out of the record and put back. Any other is left to the calls on the whole device.
+use configuration::Config;
+use host::Host;
+use pci::Msi;
+use registers::Registers;
+use rings::Link;
+use stream::STREAMS;
+ghost use mathlib.Core.Path.{_≡_};
+ghost use mathlib.Core.Bool.{true};
+ghost use Prim.Native.Nat.{_≤_};
+ghost use lib.ListN.{length};
+ghost use Rattle.stream.specs.Box.{streams};
+ghost use Rattle.bus.specs.Bus.{frontOf, bytesOf};
+ghost use Rattle.device.specs.Machines.{machine};
+ghost use Rattle.record.specs.Layout.{deviceSize};
+ghost use Rattle.record.specs.Loads.{deviceAt, isDevice};
+ghost use Rattle.fastpath.specs.Quick.{staysOf, stayFrom, quietOf, leftAlone, tried, concluded, concludedOf, alignedOf, partsOf, writeBy, configWriteBy};
+
+// Whether a write was carried out, and then the INTx level that it leaves and its message.
+pub struct Quick {
+    pub done: bool,
+    pub level: bool,
+    pub msi: Msi,
+}
+
+// A write that is left to the calls on the whole device.
+fn left_alone() -> Quick
+    ensures { λ r. ⌜ r ≡ leftAlone ⌝ }
+{
+    Quick {
+        done: false,
+        level: false,
+        msi: Msi::None,
+    }
+}
+
+// Whether a stream goes on as it did, by its control byte before and after a write.
+fn stays(before: u8, after: u8) -> bool
+    ensures { λ r. ⌜ r ≡ staysOf before after ⌝ }
+{
+    let held = after & 1 != 0;
+    let ran = before & 2 != 0;
+    let runs = after & 2 != 0;
+    !held & (!(ran & !runs) & !(!ran & runs))
+}
+
+// Whether every stream does.
+fn streams_stay(old: &Registers, regs: &Registers) -> bool
+    ensures { λ r. ⌜ r ≡ stayFrom streams 0 (now (old .entry)) (now (regs .entry)) ⌝ }
+{
+    let count = STREAMS;
+    let mut index = 0;
+    while index < count {
+        let at = registers::STREAM_BASE + registers::STREAM_SIZE * index;
+        if !stays(old[at], regs[at]) {
+            return false;
+        }
+        index += 1;
+    }
+    true
+}
+
+// Whether a write that left `regs` of `old` resets, flushes, starts and stops nothing.
+fn is_quiet(old: &Registers, regs: &Registers) -> bool
+    ensures { λ r. ⌜ r ≡ quietOf (now (old .entry)) (now (regs .entry)) ⌝ }
+{
+    let before = old[registers::GCTL] & 1 != 0;
+    let after = regs[registers::GCTL] & 1 != 0;
+    let flush = regs[registers::GCTL] & 2 != 0;
+    let same = !(before & !after) & !(!before & after);
+    same & (!flush & streams_stay(old, regs))
+}
+
+// The bytes of a write in order, and the alignment after them.
+fn written(regs: &mut Registers, link: Link, offset: u64, bytes: &[u8]) -> Link
+    ensures { λ r. ⌜ frontOf (now (regs .exit)) r ≡ alignedOf (bytesOf (frontOf (now (regs .entry)) link) offset (now (bytes .entry))) ⌝ }
+{
+    let next = bus::write(regs, link, offset, bytes);
+    registers::align(regs);
+    next
+}
+
+// The commands and the interrupt, and all of it into the record.
+fn conclude(
+    device: &mut [u8],
+    config: &mut Config,
+    regs: &mut Registers,
+    link: Link,
+    memory: &mut [u8],
+) -> Quick
+    requires { ⌜ (length (now device) ≡ deviceSize) × (isDevice (now device) ≡ true) × (link .responses ≤ 255) ⌝ }
+    ensures { λ r. ⌜ concluded r (now (device .exit)) (now (memory .exit)) (now (config .exit)) (now (regs .exit)) ≡ concludedOf (partsOf (now (device .entry)) (now (config .entry)) (now (regs .entry)) link) (now (memory .entry)) ⌝ }
+{
+    let dma = registers::dma_enabled(config, regs);
+    let next = rings::commands(dma, regs, link, memory);
+    let signal = pci::update_irq(config, regs, record::is_asserted(device));
+    record::replace(device, config, regs, next, signal.asserted);
+    let msi = signal.msi;
+    Quick {
+        done: true,
+        level: pci::level(config, regs),
+        msi: msi,
+    }
+}
+
+// A guest's write to the registers from `offset` on.
+pub fn write(
+    device: &mut [u8],
+    host: Host,
+    lists: &[u8],
+    queues: &[u8],
+    memory: &mut [u8],
+    offset: u64,
+    bytes: &[u8],
+) -> Quick
+    requires { ⌜ (length (now device) ≡ deviceSize) × (isDevice (now device) ≡ true) ⌝ }
+    ensures { λ r. ⌜ tried r (now (device .exit)) (now (memory .exit)) ≡ writeBy offset (now (bytes .entry)) (now (device .entry)) (machine (deviceAt (now (device .entry))) host (now (lists .entry)) (now (queues .entry)) (now (memory .entry))) ⌝ }
+{
+    if read::check(device, host, lists, queues.len()) != 0 {
+        return left_alone();
+    }
+    let old = record::load_block(device, 262);
+    let mut regs = old;
+    let next = written(&mut regs, record::load_link(device), offset, bytes);
+    if !is_quiet(&old, &regs) {
+        return left_alone();
+    }
+    let mut config = record::load_block(device, 6);
+    conclude(device, &mut config, &mut regs, next, memory)
+}
+
+// A write to the configuration, from byte `offset` of a register on.
+pub fn config_write(
+    device: &mut [u8],
+    host: Host,
+    lists: &[u8],
+    queues: &[u8],
+    memory: &mut [u8],
+    register: u64,
+    offset: u64,
+    bytes: &[u8],
+) -> Quick
+    requires { ⌜ (length (now device) ≡ deviceSize) × (isDevice (now device) ≡ true) ⌝ }
+    ensures { λ r. ⌜ tried r (now (device .exit)) (now (memory .exit)) ≡ configWriteBy register offset (now (bytes .entry)) (now (device .entry)) (machine (deviceAt (now (device .entry))) host (now (lists .entry)) (now (queues .entry)) (now (memory .entry))) ⌝ }
+{
+    if read::check(device, host, lists, queues.len()) != 0 {
+        return left_alone();
+    }
+    // An address past 64 bits.
+    if register > 0x3fff_ffff_ffff_ffff {
+        return left_alone();
+    }
+    if offset > 0xffff_ffff_ffff_ffff - 4 * register {
+        return left_alone();
+    }
+    let mut config = record::load_block(device, 6);
+    configuration::write(&mut config, 4 * register + offset, bytes);
+    let mut regs = record::load_block(device, 262);
+    conclude(device, &mut config, &mut regs, record::load_link(device), memory)
+}
