@@ -25,6 +25,9 @@ use Rattle.serve.specs.Serve.{serveOf}
 use Rattle.advance.specs.Advance.{tickedOf, numberOf, servedOf, afterCommands, advanceStep, advanceOf}
 use Rattle.write.specs.Writes.{writeStep, writeOf}
 use Rattle.hda.specs.Calls as hda
+use Rattle.restore.specs.Restores as restore
+use Rattle.restore.specs.Restores.{Restored, restoredDevice, restoredHost, restoreStep, restoreOf}
+use Rattle.restore.proofs.Theorems.{refused-kept}
 use Rattle.record.specs.Layout.{deviceSize}
 use Rattle.record.specs.Devices.{flag, linkBytes, headOf, streamsBytes, deviceBytes}
 use Rattle.record.specs.Loads.{deviceAt}
@@ -35,7 +38,7 @@ use Rattle.host_record.proofs.Theorems.{host-loaded}
 use Rattle.reply.specs.Replies.{isSent, replyOf, unreadableOf, isMachine}
 use Rattle.reply.proofs.Records.{machine-device, machine-host}
 use Rattle.reply.proofs.Theorems.{low-returned}
-use Rattle.port_device.specs.Calls.{Lent, Returned, returned, machineAt, returnedOf, behind, Made, made, madeOf, newOf, pausedOf}
+use Rattle.port_device.specs.Calls.{Lent, Returned, returned, machineAt, returnedOf, behind, restoredBy, Made, made, madeOf, newOf, pausedOf}
 
 -- ---- where a message stands
 -- a message is the one that the configuration holds which the call leaves
@@ -149,6 +152,18 @@ unfolding hda.pinOf
 pin-placed node x =
     checked-placed (hda.pinStep node) x (pin-by PlacedDone node x (quiet-placed 0 (x .hda) (x .host)) (λ y. finish-placed 0 (y .hda) (y .host)))
 
+pub restore-placed : (state : List ℕ) (x : Machine) → Placed (restoredBy state x .answer)
+unfolding restoreOf restoreStep
+restore-placed state x =
+    let d : Hda = x .hda in
+    let h : Host = x .host in
+    let P : Restored → Type 0 = λ r. Placed (r .answer) in
+    by-cond P (eqb (checkMachine x) 0) _ _
+    (λ _.
+    by-cond P (eqb (restore.numberOf state d h) 0) _ _ (λ _. finish-placed 0 (restoredDevice state d) (restoredHost state (d .microphone) h))
+    (λ _. quiet-placed (restore.numberOf state d h) d h))
+    (λ _. quiet-placed (checkMachine x) d h)
+
 -- the configuration stands at byte 6 of a device record
 config-word : (d : Hda) → length (d .config) ≡ 256 → (n k : ℕ) → k + n ≤ 256 → wordAt n (6 + k) (deviceBytes d) ≡ wordAt n k (d .config)
 unfolding wordAt deviceBytes headOf
@@ -241,6 +256,31 @@ pub pin-refused : (node : ℕ) → Refusing 0 (hda.pinOf node)
 unfolding hda.pinOf
 pin-refused node =
     refusing 0 (hda.pinStep node) (λ y. pin-by (Numbered 0) node y (quiet-numbered 0 (y .hda) (y .host)) (λ w. finish-numbered 0 0 (w .hda) (w .host) none))
+
+-- every number of a restore but 0 is a refusal, 1 too
+pub restore-refused : (state : List ℕ) → Refusing 0 (restoredBy state)
+unfolding behind
+restore-refused state x device host = go (isMachine (x .device) (x .host)) refl
+  where
+    call : Returned
+    call = returnedOf (restoredBy state (machineAt x))
+
+    outcome : Bool → Returned
+    outcome a = cond a call (returned (unreadableOf (length (x .lists)) (length (x .queues))) x)
+
+    go : (a : Bool) → isMachine (x .device) (x .host) ≡ a → 0 < outcome a .reply % 256 → outcome a .lent ≡ x
+    go true t e =
+        let z : Answer = restoredBy state (machineAt x) .answer in
+        let low : 0 < z .number % 256 = rw (low-returned (z .number) 0 (z .level) (isSent (z .msi))) at e in
+        let k = refused-kept state (deviceAt (x .device)) (hostAt (x .host)) (x .lists) (length (x .queues)) (λ n. absurd (omega (arith, n, low))) in
+        rw (
+          k .0,
+          k .1,
+          k .2,
+          device-loaded (x .device) (machine-device (x .device) (x .host) t) device,
+          host-loaded (x .host) (machine-host (x .device) (x .host) t) host,
+        )
+    go false t e = refl
 
 pub paused-refused : (paused : Bool) (device host lists : List ℕ) (queues : ℕ) → Bytes device → 0 < pausedOf paused device host lists queues .reply % 256
     → pausedOf paused device host lists queues .device ≡ device
