@@ -89,7 +89,7 @@ pub fn pull(host: Host, queues: &mut [u8], into: &mut [u8]) -> Fed
 
 // The three settings, by value: whether openings for playback fail, whether those for capture do, and the downstream count.
 
-pub fn playback_step(host: Host, queues: &[u8], fails: bool) -> Set
+fn playback_step(host: Host, queues: &[u8], fails: bool) -> Set
     ensures { λ r. ⌜ r ≡ playbackFailsOf host (length (now (queues .entry))) fails ⌝ }
 {
     let number = host.check(queues.len());
@@ -101,7 +101,7 @@ pub fn playback_step(host: Host, queues: &[u8], fails: bool) -> Set
     Set { number: 0, host: h }
 }
 
-pub fn capture_step(host: Host, queues: &[u8], fails: bool) -> Set
+fn capture_step(host: Host, queues: &[u8], fails: bool) -> Set
     ensures { λ r. ⌜ r ≡ captureFailsOf host (length (now (queues .entry))) fails ⌝ }
 {
     let number = host.check(queues.len());
@@ -114,7 +114,7 @@ pub fn capture_step(host: Host, queues: &[u8], fails: bool) -> Set
 }
 
 // 12 for a count above 14,336 or no multiple of 4.
-pub fn downstream_step(host: Host, queues: &[u8], n: u32) -> Set
+fn downstream_step(host: Host, queues: &[u8], n: u32) -> Set
     ensures { λ r. ⌜ r ≡ downstreamOf host (length (now (queues .entry))) n ⌝ }
 {
     let number = host.check(queues.len());
@@ -153,4 +153,30 @@ pub fn set_downstream(host: &mut Host, queues: &[u8], n: u32) -> u32
     let s = downstream_step(*host, queues, n);
     *host = s.host;
     s.number
+}
+
+// The same on a record by value, which is lent to the setter from a local, so that callers need lend none of their own.
+
+pub fn with_playback_fails(host: Host, queues: &[u8], fails: bool) -> Set
+    ensures { λ r. ⌜ r ≡ playbackFailsOf host (length (now (queues .entry))) fails ⌝ }
+{
+    let mut h = host;
+    let number = set_playback_fails(&mut h, queues, fails);
+    Set { number, host: h }
+}
+
+pub fn with_capture_fails(host: Host, queues: &[u8], fails: bool) -> Set
+    ensures { λ r. ⌜ r ≡ captureFailsOf host (length (now (queues .entry))) fails ⌝ }
+{
+    let mut h = host;
+    let number = set_capture_fails(&mut h, queues, fails);
+    Set { number, host: h }
+}
+
+pub fn with_downstream(host: Host, queues: &[u8], n: u32) -> Set
+    ensures { λ r. ⌜ r ≡ downstreamOf host (length (now (queues .entry))) n ⌝ }
+{
+    let mut h = host;
+    let number = set_downstream(&mut h, queues, n);
+    Set { number, host: h }
 }

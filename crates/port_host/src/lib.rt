@@ -85,7 +85,7 @@ pub fn set_playback_fails(host: &mut [u8], queues: &[u8], fails: bool) -> u64
         return unreadable(queues.len());
     }
     let h = host_record::load_host(host);
-    let s = driver::playback_step(h, queues, fails);
+    let s = driver::with_playback_fails(h, queues, fails);
     set(s, host)
 }
 
@@ -96,7 +96,7 @@ pub fn set_capture_fails(host: &mut [u8], queues: &[u8], fails: bool) -> u64
         return unreadable(queues.len());
     }
     let h = host_record::load_host(host);
-    let s = driver::capture_step(h, queues, fails);
+    let s = driver::with_capture_fails(h, queues, fails);
     set(s, host)
 }
 
@@ -107,6 +107,6 @@ pub fn set_downstream(host: &mut [u8], queues: &[u8], bytes: u32) -> u64
         return unreadable(queues.len());
     }
     let h = host_record::load_host(host);
-    let s = driver::downstream_step(h, queues, bytes);
+    let s = driver::with_downstream(h, queues, bytes);
     set(s, host)
 }

@@ -28,7 +28,7 @@ set-requires c κs =
 returns-2 : tie.Need-returns-2
 returns-2 c =
     let s = c .before .before .set in
-    let k = c .before .before .before .before .playback-step in
+    let k = c .before .before .before .before .with-playback-fails in
     let l = c .before .before .before .before .before .load-host in
     let t = c .before .before .before .before .before .before .before in
     let a = t .before .before .before .before .before .args in
