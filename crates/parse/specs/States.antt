@@ -14,11 +14,17 @@ use Rattle.stream.specs.declared.Stream.{Stream}
 use Rattle.stream.specs.Streams.{places}
 use Rattle.stream.specs.Box.{streams}
 use Rattle.registers.specs.Places.{ctl, fmt, byteAt, has}
+use Rattle.reader.specs.declared.Got.the-variants.{Short}
+use Rattle.reader.specs.Fields as reader
 use Rattle.reader.specs.Fields.{fieldOf, runOf, thenOf}
 use Rattle.record.specs.Layout.{headSize, numbersSize}
 use Rattle.record.specs.Devices.{flag}
 use Rattle.record.specs.Loads.{markedOf, streamAt}
 use Rattle.parse.specs.declared.Step.{Step}
+
+-- the number where the state ends inside a field
+abbrev pub cut : ℕ
+cut = reader.numberOf Short
 
 -- the formats of the converters, nodes 2 and 4: bytes 10 and 11 of their records
 abbrev pub converterNumber : List ℕ → ℕ
@@ -28,19 +34,19 @@ converterNumber s =
 
 -- clock and responses
 abbrev pub timesNumber : List ℕ → ℕ → ℕ
-timesNumber s at = thenOf (runOf s at 18) 2 (λ start next. 0)
+timesNumber s at = thenOf (runOf s at 18) cut (λ start next. 0)
 
 -- pause, configuration, registers and codec, of which nothing is tested before all are there; then the converters' formats
 abbrev pub filesNumber : List ℕ → ℕ → ℕ
-filesNumber s at = thenOf (runOf s at 657) 2 (λ start next. cond (eqb (converterNumber s) 0) (timesNumber s next) (converterNumber s))
+filesNumber s at = thenOf (runOf s at 657) cut (λ start next. cond (eqb (converterNumber s) 0) (timesNumber s next) (converterNumber s))
 
 -- the microphone, which must be this device's
 abbrev pub ownNumber : List ℕ → ℕ → Bool → ℕ
-ownNumber s at microphone = thenOf (fieldOf s at 1) 2 (λ own next. cond (eqb own (flag microphone)) (filesNumber s next) 4)
+ownNumber s at microphone = thenOf (fieldOf s at 1) cut (λ own next. cond (eqb own (flag microphone)) (filesNumber s next) 4)
 
 -- what stands before the streams
 unfoldable pub headNumber : List ℕ → Bool → ℕ
-headNumber s microphone = thenOf (runOf s 0 4) 2 (λ start next. cond (markedOf s) (ownNumber s next microphone) 3)
+headNumber s microphone = thenOf (runOf s 0 4) cut (λ start next. cond (markedOf s) (ownNumber s next microphone) 3)
 
 -- a stream's positions, from `at` on: their count, then their order
 unfoldable pub listNumber : List ℕ → Stream → ℕ → ℕ
@@ -71,7 +77,7 @@ steppedOf number at next = stepOut number (cond (eqb number 0) next at)
 
 unfoldable pub stepAt : List ℕ → ℕ → Step → Step
 stepAt s i w =
-    thenOf (runOf s (w .next) numbersSize) (stepOut 2 (w .next))
+    thenOf (runOf s (w .next) numbersSize) (stepOut cut (w .next))
     (λ start next. let t = streamAt (w .next) s in steppedOf (streamNumber s t next i) (w .next) (next + 8 * t .pending))
 
 abbrev pub goesOn : Step → Bool
