@@ -1,13 +1,13 @@
 -- Save and restore: which saved devices come back, and what of them does. Assumes nothing.
 use Prim.Native.Nat.{ℕ, zero, suc, _+_, _*_, _≤_, _<_}
-use mathlib.Core.Path.{_≡_, refl, sym, ap, _∙_}
-use mathlib.Core.Bool.{Bool, true, false, cond, and-false}
+use mathlib.Core.Path.{_≡_, refl, sym, ap, subst, _∙_}
+use mathlib.Core.Bool.{Bool, true, false, cond, _&&_, and-false}
 use mathlib.Core.List.{List}
 use native.Mathlib.Omega.{arith}
 use borrow.Author.Tests.{leb-true, eqb-true}
-use lib.Dec.{eqb}
-use lib.ListN.{take, drop}
-use lib.Seq.{take-take}
+use lib.Dec.{eqb, ltb}
+use lib.ListN.{length, take, drop}
+use lib.Seq.{take-at, take-take}
 use Rattle.word.specs.Place.{putAt, wordAt, storeAt}
 use Rattle.word.specs.Each.{eachOf}
 use Rattle.word.specs.Parts.{partOf}
@@ -35,27 +35,45 @@ use Rattle.device.proofs.Facts.{answer-number}
 use Rattle.record.specs.Devices.{flag}
 use Rattle.record.specs.Typed.{TypedDevice}
 use Rattle.record.proofs.Places.{flag-small, row-same}
-use Rattle.snapshot.specs.States.{stateOf, Kept}
+use Rattle.snapshot.specs.States.{stateOf, sizeOf, Kept}
+use Rattle.snapshot.specs.Saves.{Save, saveStep, saveOf}
 use Rattle.parse.specs.States.{placeOf, converterNumber, formatNumber, stateNumber}
 use Rattle.parse.proofs.Choices.{both-pass}
 use Rattle.parse.proofs.Theorems.{TakenStream, TakenLast, taken-head, taken-streams}
 use Rattle.restore.specs.Restores.{opensOf, streamOf, refusedFrom, openingNumber, restoredLists, restoredHost, restoredDevice, Restored, acceptedOf, numberOf, restoreStep, restoreOf}
-use Rattle.restore.specs.Returns.{wordNumber, streamNumber, Restorable, returnedDevice, returnedQueue, returnedHost}
+use Rattle.restore.specs.Returns.{wordNumber, streamNumber, Restorable, asksOf, Willing, returnedDevice, returnedQueue, returnedHost}
 use Rattle.restore.proofs.Outcomes.{taken-fits}
 use Rattle.restore.proofs.Lists.{valid-same, restored-positions}
 use Rattle.restore.proofs.Takes.{state-takes}
 use Rattle.restore.proofs.Saves as saves
 use Rattle.restore.proofs.Theorems.{number-taken, block-identity}
 
--- a host end whose switches are off refuses no opening
-none-refused : (n i : ℕ) (s : List ℕ) (microphone : Bool) (h : Host) → h .playback ≡ false → h .capture ≡ false → refusedFrom n i s microphone h ≡ false
+-- no opening is refused where none of those that are asked for is
+none-refused : (s : List ℕ) (microphone : Bool) (h : Host) → ((i : ℕ) → i < box.streams → (opensOf s microphone i && hosts.failsOf h i) ≡ false)
+    → (n i : ℕ) → i + n ≤ box.streams → refusedFrom n i s microphone h ≡ false
 unfolding refusedFrom
-none-refused zero i s microphone h p c = refl
-none-refused (suc n) i s microphone h p c = rw (fails (box.captures i), and-false (opensOf s microphone i)) (none-refused n (i + 1) s microphone h p c)
+none-refused s microphone h each zero i b = refl
+none-refused s microphone h each (suc n) i b = rw (each i (omega arith)) (none-refused s microphone h each n (i + 1) (omega arith))
+
+-- as by a host end whose switches are off
+pub off-willing : (saved : Hda) (h : Host) → h .playback ≡ false → h .capture ≡ false → Willing saved h
+off-willing saved h p c i few = rw (fails (box.captures i)) (and-false (asksOf saved i))
   where
     fails : (b : Bool) → cond b (h .capture) (h .playback) ≡ false
     fails true = c
     fails false = p
+
+-- what a save that is done has written, as many bytes as it says, is the state
+pub saved-bytes : (saved : Hda) (h₀ : Host) (l₀ : List ℕ) (q₀ : ℕ) → TypedDevice saved → checkOf saved h₀ l₀ q₀ ≡ 0 → (into : List ℕ)
+    → saveOf saved h₀ l₀ q₀ into .saved .number ≡ 0 → take (saveOf saved h₀ l₀ q₀ into .saved .count) (saveOf saved h₀ l₀ q₀ into .into) ≡ stateOf saved l₀
+unfolding saveOf saveStep
+saved-bytes saved h₀ l₀ q₀ t check₀ into =
+    let p = passed saved h₀ l₀ q₀ check₀ in
+    let size = saves.length-saved saved l₀ t (record { few = p .pending; long = p .lists }) in
+    rw check₀
+    (by-cond (λ (r : Save). r .saved .number ≡ 0 → take (r .saved .count) (r .into) ≡ stateOf saved l₀) (ltb (length into) (sizeOf saved)) _ _
+    (λ _ z. absurd (omega (arith, z)))
+    (λ _ z. take-at (stateOf saved l₀) _ (sizeOf saved) size))
 
 -- the saved device, and the one that takes its state
 module _ (saved : Hda) (h₀ : Host) (l₀ : List ℕ) (q₀ : ℕ) (t : TypedDevice saved) (check₀ : checkOf saved h₀ l₀ q₀ ≡ 0)
@@ -138,26 +156,32 @@ module _ (saved : Hda) (h₀ : Host) (l₀ : List ℕ) (q₀ : ℕ) (t : TypedDe
         same,
       )
 
+  opens-same : (i : ℕ) → i < box.streams → opensOf s (d .microphone) i ≡ asksOf saved i
+  opens-same i few = rw (saves.register-byte saved l₀ t kept (ctl i) (omega arith), same)
+
   host-back : restoredHost s (d .microphone) h ≡ returnedHost saved h
   unfolding returnedHost
   host-back =
       ap (hosts.host (h .playback) (h .capture) (h .downstream))
       (row-same (λ (i : ℕ). queue (opensOf s (d .microphone) i) 0) (returnedQueue saved) box.streams
-      (λ i few. rw (saves.register-byte saved l₀ t kept (ctl i) (omega arith), same)) box.streams 0 (omega arith))
+      (λ i few. ap (λ (b : Bool). queue b 0) (opens-same i few)) box.streams 0 (omega arith))
 
-  -- the answer, and each stream's positions in its part of the lists
-  pub record Back : Type 0 where
-    pub answer : restoreOf s d h l q .answer ≡ finishOf 0 (returnedDevice saved d) (returnedHost saved h)
+  -- of these bytes: the answer, and each stream's positions in its part of the lists
+  pub record Back (state : List ℕ) : Type 0 where
+    pub answer : restoreOf state d h l q .answer ≡ finishOf 0 (returnedDevice saved d) (returnedHost saved h)
     pub positions : (i : ℕ) → i < box.streams
-        → take (8 * streamAt saved i .pending) (partOf listSize i (restoreOf s d h l q .lists)) ≡ take (8 * streamAt saved i .pending) (partOf listSize i l₀)
+        → take (8 * streamAt saved i .pending) (partOf listSize i (restoreOf state d h l q .lists)) ≡ take (8 * streamAt saved i .pending) (partOf listSize i l₀)
 
-  accepted : Restorable saved → h .playback ≡ false → h .capture ≡ false → restoreOf s d h l q ≡ acceptedOf s d h l
+  accepted : Restorable saved → Willing saved h → restoreOf s d h l q ≡ acceptedOf s d h l
   unfolding restoreOf restoreStep openingNumber
-  accepted r p c = rw (check, saved-taken r, none-refused box.streams 0 s (d .microphone) h p c)
+  accepted r w =
+      let each : (i : ℕ) → i < box.streams → (opensOf s (d .microphone) i && hosts.failsOf h i) ≡ false
+      = λ i few. ap (λ (b : Bool). b && hosts.failsOf h i) (opens-same i few) ∙ w i few in
+      rw (check, saved-taken r, none-refused s (d .microphone) h each box.streams 0 (omega arith))
 
-  pub save-restores : Restorable saved → h .playback ≡ false → h .capture ≡ false → Back
-  save-restores r p c =
-      let done = accepted r p c in
+  pub save-restores : Restorable saved → Willing saved h → Back s
+  save-restores r w =
+      let done = accepted r w in
       let fits = taken-fits s (d .microphone) (d .config) (saved-taken r) in
       record {
         answer = ap (λ (x : Restored). x .answer) done ∙ rw (device-back, host-back);
@@ -171,6 +195,11 @@ module _ (saved : Hda) (h₀ : Host) (l₀ : List ℕ) (q₀ : ℕ) (t : TypedDe
             ∙ own
             ∙ x .positions;
       }
+
+  -- so it is from the space lent to `save`
+  pub save-returns : (into : List ℕ) → saveOf saved h₀ l₀ q₀ into .saved .number ≡ 0 → Restorable saved → Willing saved h
+      → Back (take (saveOf saved h₀ l₀ q₀ into .saved .count) (saveOf saved h₀ l₀ q₀ into .into))
+  save-returns into z r w = subst Back (sym (saved-bytes saved h₀ l₀ q₀ t check₀ into z)) (save-restores r w)
 
   -- and no other device comes back
   pub restores-only : restoreOf s d h l q .answer .number ≡ 0 → Restorable saved

@@ -1,7 +1,7 @@
 -- What comes back of a device that was saved: which devices' states are taken, and what a device that takes one has of it.
 use Prim.Native.Nat.{ℕ, _<_}
 use mathlib.Core.Path.{_≡_}
-use mathlib.Core.Bool.{false, cond, not, _&&_, _||_}
+use mathlib.Core.Bool.{Bool, false, cond, not, _&&_, _||_}
 use lib.Dec.{eqb}
 use Rattle.word.specs.Place.{wordAt, storeAt}
 use Rattle.clock.specs.Clock.{shownOf}
@@ -42,9 +42,17 @@ returnedDevice saved d =
     let c = laterOf (d .clock) (saved .clock) in
     hda (saved .config) (storeAt 4 walclk (shownOf c) (saved .regs)) (saved .link) (saved .streams) c (saved .microphone) (saved .paused) false
 
--- the host end: empty queues, open where the saved stream runs, an input only with a microphone
+-- a stream's opening is asked for where it runs, an input's only with a microphone
+abbrev pub asksOf : Hda → ℕ → Bool
+asksOf saved i = has 2 (byteAt (saved .regs) (ctl i)) && (not (box.captures i) || saved .microphone)
+
+-- a host end that refuses none of them
+abbrev pub Willing : Hda → Host → Type 0
+Willing saved h = (i : ℕ) → i < box.streams → (asksOf saved i && hosts.failsOf h i) ≡ false
+
+-- the host end: empty queues, open where an opening was asked for
 abbrev pub returnedQueue : Hda → ℕ → Queue
-returnedQueue saved i = queue (has 2 (byteAt (saved .regs) (ctl i)) && (not (box.captures i) || saved .microphone)) 0
+returnedQueue saved i = queue (asksOf saved i) 0
 
 unfoldable pub returnedHost : Hda → Host → Host
 returnedHost saved h = hosts.host (h .playback) (h .capture) (h .downstream) (rowOf (returnedQueue saved) box.streams 0)
