@@ -6,7 +6,7 @@ use native.Mathlib.Omega.{arith}
 use native.Mathlib.Nat.{zero-add}
 use borrow.Author.Tests.{eqb-true, eqb-false}
 use lib.Dec.{eqb}
-use lib.ListN.{length, take, drop}
+use lib.ListN.{length, take, drop, getD}
 use lib.Seq.{take-take}
 use Rattle.word.specs.Parts.{partOf}
 use Rattle.positions.specs.Positions.{positionsOf}
@@ -27,7 +27,7 @@ use Rattle.restore.specs.Restores.{streamOf, restoredLists, restoredDevice, Res
 use Rattle.restore.proofs.Outcomes.{taken-fits}
 use Rattle.restore.proofs.Lists.{length-restored, restored-positions, restored-stream}
 use Rattle.restore.proofs.Theorems.{number-taken}
-use Rattle.book.specs.Book.{Event, note}
+use Rattle.book.specs.Book.{Book, Event, restoredWith, note}
 use Rattle.book.specs.Events.{onlyIf, restoredEvent}
 use Rattle.book.proofs.Ghosts.{Ghost, sees}
 use Rattle.book.proofs.Loops.{by-both}
@@ -53,6 +53,36 @@ module _ (s : List ℕ) (d : Hda) (h : Host) (l : List ℕ) where
       (λ _. by-cond P (eqb (numberOf s d h) 0) (acceptedOf s d h l) _ (λ _. accepted-count) (λ e. absurd (eqb-false (numberOf s d h) 0 e number)))
       (λ e. absurd (eqb-false (checkOf d h l q) 0 e check))
 
+  -- its counts and positions are the state's
+  module _ (i : ℕ) (few : i < streams) (space : listSize * streams ≤ length l) where
+    accepted-stream : getD (acceptedOf s d h l .answer .hda .streams) i freshOf ≡ streamOf s i
+    unfolding finishOf answerOf restoredDevice
+    accepted-stream = row-at freshOf (streamOf s) streams 0 i few ∙ ap (streamOf s) (zero-add i)
+
+    accepted-positions : numberOf s d h ≡ 0
+        → let n = streamOf s i .pending in positionsOf n (partOf listSize i (restoredLists s l)) ≡ positionsOf n (drop (placeOf s i + 34) s)
+    accepted-positions number =
+        let fits = taken-fits s (d .microphone) (d .config) (number-taken s d h number) in
+        let n = streamOf s i .pending in
+        positions-take n (partOf listSize i (restoredLists s l)) (drop (placeOf s i + 34) s)
+        (take-take (8 * n) listSize (drop (listSize * i) (restoredLists s l)) (omega (arith, fits .few i few)) ∙ restored-positions s fits l space i few)
+
+    abbrev Starting : Book → Restored → Type 0
+    Starting b r =
+        let t = getD (r .answer .hda .streams) i freshOf in
+        restoredWith (t .submitted) (t .consumed) (positionsOf (t .pending) (partOf listSize i (r .lists))) ≡ note (restoredEvent s i) b
+
+    accepted-starts : (b : Book) → numberOf s d h ≡ 0 → Starting b (acceptedOf s d h l)
+    unfolding note
+    accepted-starts b number = rw (accepted-stream, accepted-positions number)
+
+    pub restored-starts : (b : Book) (q : ℕ) → checkOf d h l q ≡ 0 → numberOf s d h ≡ 0 → Starting b (restoreOf s d h l q)
+    unfolding restoreOf restoreStep
+    restored-starts b q check number =
+        by-cond (Starting b) (eqb (checkOf d h l q) 0) _ _
+        (λ _. by-cond (Starting b) (eqb (numberOf s d h) 0) (acceptedOf s d h l) _ (λ _. accepted-starts b number) (λ e. absurd (eqb-false (numberOf s d h) 0 e number)))
+        (λ e. absurd (eqb-false (checkOf d h l q) 0 e check))
+
   module _ (F : Type 0) (i : ℕ) (few : i < streams) (a : Ghost) (held : Held F i (d .streams) l a) where
     accepted-held : (F → ⊥) → numberOf s d h ≡ 0
         → let r = acceptedOf s d h l in Held F i (r .answer .hda .streams) (r .lists) (sees (restoredEvent s i ∷ []) a)
@@ -64,15 +94,12 @@ module _ (s : List ℕ) (d : Hda) (h : Host) (l : List ℕ) where
         let valid = taken-streams s (d .microphone) (d .config) taken .1 i few .valid in
         let space : listSize * streams ≤ length (restoredLists s l) = omega (arith, held .space, length-restored s fits l (held .space)) in
         let part = partOf listSize i (restoredLists s l) in
-        let small : 8 * t .pending ≤ listSize = omega (arith, fits .few i few) in
-        let same : take (8 * t .pending) part ≡ take (8 * t .pending) (drop (placeOf s i + 34) s) =
-        take-take (8 * t .pending) listSize (drop (listSize * i) (restoredLists s l)) small ∙ restored-positions s fits l (held .space) i few in
         record {
           count = length-row (streamOf s) streams 0;
           space = space;
-          own = rw (row-at freshOf (streamOf s) streams 0 i few ∙ ap (streamOf s) (zero-add i))
+          own = rw (accepted-stream i few (held .space))
               (tied-opening F t part (positionsOf (t .pending) (drop (placeOf s i + 34) s)) (a .full) (part-size i (restoredLists s l) few space)
-              (restored-stream s fits l (held .space) i few valid) (positions-take (t .pending) part (drop (placeOf s i + 34) s) same) (λ f. absurd (none f)) (held .own .never));
+              (restored-stream s fits l (held .space) i few valid) (accepted-positions i few (held .space) number) (λ f. absurd (none f)) (held .own .never));
         }
 
     pub restore-held : (q : ℕ) → (F → checkOf d h l q ≡ 0 → numberOf s d h ≡ 0 → ⊥)

@@ -5,6 +5,7 @@ use mathlib.Core.Bool.{Bool, true, false}
 use mathlib.Core.List.{List, _++_}
 use lib.ListN.{length, length-replicate, getD-replicate}
 use Rattle.word.specs.Parts.{partOf}
+use Rattle.positions.specs.Positions.{positionsOf}
 use Rattle.stream.specs.Streams as stream
 use Rattle.stream.specs.Box.{streams}
 use Rattle.stream.proofs.Validity.{valid-parts, fresh-valid}
@@ -17,14 +18,16 @@ use Rattle.device.proofs.Checks.{passed}
 use Rattle.restore.proofs.Theorems.{restored-valid}
 use Rattle.calls.specs.Calls as calls
 use Rattle.calls.specs.Calls.{after}
-use Rattle.book.specs.Book.{Book}
+use Rattle.book.specs.Book as book
+use Rattle.book.specs.Book.{Book, note}
+use Rattle.book.specs.Events.{restoredEvent}
 use Rattle.book.specs.Lists.{Step, run, allEvents, pendingOf, openingOf, bookOf}
-use Rattle.book.specs.Claim.{Rises, Starts, new, restored, made, Accepts, Agrees, NoRestore, Spaced}
+use Rattle.book.specs.Claim.{Rises, Starts, new, restored, made, Accepts, Opens, Agrees, NoRestore, Spaced}
 use Rattle.book.proofs.Ghosts.{Ghost, ghost, sees, sees-book, never-full}
 use Rattle.book.proofs.Orders.{rises-all, four-apart}
 use Rattle.book.proofs.Tied.{tied-opening}
 use Rattle.book.proofs.Machines.{Held, part-size}
-use Rattle.book.proofs.Restores.{restored-count}
+use Rattle.book.proofs.Restores.{restored-count, restored-starts}
 use Rattle.book.proofs.Calls.{run-held}
 
 abbrev opened : ℕ → Machine → Ghost
@@ -69,6 +72,20 @@ restored-begins i few s x e =
 started : (i : ℕ) (few : i < streams) (x : Machine) → Starts x → Begins ⊥ i few x
 started i few x (new microphone h lists queues memory long wide) = new-begins ⊥ i few microphone h lists queues memory long
 started i few x (restored s y e) = restored-begins i few s y e
+
+-- the book's start
+fresh-opens : (i : ℕ) → i < streams → (microphone : Bool) (h : Host) (lists queues memory : List ℕ) → openingOf i (made microphone h lists queues memory) ≡ book.made
+unfolding stream.freshOf positionsOf
+fresh-opens i few microphone h lists queues memory = rw (fresh-at ⊥ i few microphone)
+
+resumed-opens : (i : ℕ) → i < streams → (s : List ℕ) (x : Machine) → Accepts s x → (b : Book) → openingOf i (after (calls.restore s) x) ≡ note (restoredEvent s i) b
+unfolding after
+resumed-opens i few s x e b =
+    let q = length (x .queues) in
+    restored-starts s (x .hda) (x .host) (x .lists) i few (passed (x .hda) (x .host) (x .lists) q (e .0) .lists) b q (e .0) (e .1)
+
+pub opens : (i : ℕ) → i < streams → Opens i
+opens i few = record { fresh = fresh-opens i few; resumed = resumed-opens i few }
 
 pub agrees : (i : ℕ) → i < streams → (cs : List Step) (x : Machine) → Starts x → Agrees i cs x
 unfolding bookOf

@@ -12,8 +12,10 @@ use Rattle.device.specs.Machines.{Machine, machine, checkMachine}
 use Rattle.restore.specs.Restores.{numberOf}
 use Rattle.calls.specs.Calls.{Call, after}
 use Rattle.calls.specs.Calls as calls
-use Rattle.book.specs.Book.{Event, failed}
-use Rattle.book.specs.Lists.{Step, handed, run, allEvents, pendingOf, bookOf}
+use Rattle.book.specs.Book as book
+use Rattle.book.specs.Book.{Book, Event, failed, note}
+use Rattle.book.specs.Events.{restoredEvent}
+use Rattle.book.specs.Lists.{Step, handed, run, allEvents, pendingOf, openingOf, bookOf}
 
 -- a list of positions rises strictly, from above lo up to hi
 abbrev pub Rises : ℕ → List ℕ → ℕ → Type 0
@@ -46,6 +48,11 @@ pub data Starts : Machine → Type 0 where
       → Starts (made microphone h lists queues memory)
   restored : (s : List ℕ) (x : Machine) → Accepts s x → Starts (after (calls.restore s) x)
 
+-- the book's start, for one stream: a new device's is empty; a restored one's is what the accepted restore makes of any book, the state's counts and positions
+pub record Opens (i : ℕ) : Type 0 where
+  pub fresh : (microphone : Bool) (h : Host) (lists queues memory : List ℕ) → openingOf i (made microphone h lists queues memory) ≡ book.made
+  pub resumed : (s : List ℕ) (x : Machine) → Accepts s x → (b : Book) → openingOf i (after (calls.restore s) x) ≡ note (restoredEvent s i) b
+
 -- after the list, for one stream
 pub record Agrees (i : ℕ) (cs : List Step) (x : Machine) : Type 0 where
   -- counts and pending completions are the book's
@@ -71,6 +78,7 @@ pub record Spaced (i : ℕ) (cs : List Step) (x : Machine) : Type 0 where
   pub never : NeverFull (allEvents i cs x)
 
 pub record Demand3 : Type 0 where
+  pub opens : (i : ℕ) → i < streams → Opens i
   pub agrees : (i : ℕ) → i < streams → (cs : List Step) (x : Machine) → Starts x → Agrees i cs x
   pub spaced : (i : ℕ) → i < streams → (cs : List Step) (microphone : Bool) (h : Host) (lists queues memory : List ℕ) → listSize * streams ≤ length lists
       → capacity * streams ≤ length queues
