@@ -6,7 +6,6 @@ use mathlib.Core.List.{List, [], _∷_, _++_}
 use native.Mathlib.Omega.{arith}
 use borrow.Author.Tests.{eqb-true, ne-eqb}
 use lib.Dec.{eqb}
-use Rattle.stream.specs.declared.Stream.{Stream}
 use Rattle.stream.specs.Box.{streams}
 use Rattle.stream.specs.Update.{updateOf}
 use Rattle.pieces.specs.Pieces.{stateOf}
@@ -23,6 +22,7 @@ use Rattle.book.specs.Lists.{Step, bookOf}
 use Rattle.book.specs.Claim.{Rises, Starts}
 use Rattle.book.specs.Corollaries.{times, Once, Told}
 use Rattle.book.proofs.Orders.{rises-same, rises-room, rises-append}
+use Rattle.book.proofs.Turns.{update-near}
 use Rattle.book.proofs.Theorem.{agrees, past}
 
 -- ---- how often a position stands in a rising list
@@ -61,10 +61,6 @@ once i few cs x start =
     }
 
 -- ---- a turn: each position update tells position and count, and a transfer that fails moves neither
-update-near : (s : Stream) (l : List ℕ) (latency : ℕ) → let u = updateOf s l latency .updated .stream in u .submitted ≤ u .consumed + latency
-unfolding updateOf
-update-near s l latency = omega arith
-
 stopped-told : (g : Setup) (e : Engine) → e .position ≡ positionOf (e .stream .consumed) (g .cyclic .cbl) → Told g (stoppedOf e)
 unfolding stoppedOf
 stopped-told g e p = record { position = p; ahead = λ z. absurd (true≢false (sym z)) }

@@ -19,10 +19,10 @@ use Rattle.book.specs.Events.{planEvents, piecesEvents}
 use Rattle.book.proofs.Ghosts.{Ghost, sees, sees-append}
 use Rattle.book.proofs.Tied.{Tied, tied-moved}
 
--- a stream in a period that began at most 16,384 bytes ahead of what is heard
-pub record Going (F : Type 0) (x : State) (a : Ghost) : Type 0 where
+-- a stream in a period that ends at most 16,384 bytes ahead of what is heard
+pub record Going (F : Type 0) (count : ℕ) (x : State) (a : Ghost) : Type 0 where
   pub tied : Tied F (x .stream) (x .list) a
-  pub ahead : F → x .stream .submitted ≤ x .stream .consumed + (16384 + x .done)
+  pub room : F → x .stream .submitted + (count - x .done) ≤ x .stream .consumed + 16384
 
 -- a piece that is stopped by the limit stops the pieces
 full-one : (g : Cyclic) (count : ℕ) (x : State) → x .done < count → planOf g (x .stream) (x .memory) (count - x .done) ≡ Full
@@ -31,13 +31,13 @@ unfolding piecesOf pieceOf doneOf
 full-one g count x more e = rw (lt-ltb (x .done) count more, e)
 
 module _ (F : Type 0) (g : Cyclic) (count : ℕ) (short : count ≤ 1024) (byte : g .lvi ≤ 255) where
-  not-full : (x : State) (a : Ghost) → x .done < count → Going F x a → planOf g (x .stream) (x .memory) (count - x .done) ≡ Full → F → ⊥
+  not-full : (x : State) (a : Ghost) → x .done < count → Going F count x a → planOf g (x .stream) (x .memory) (count - x .done) ≡ Full → F → ⊥
   not-full x a more t e f =
       true≢false (sym (full-one g count x more e)
-      ∙ pieces-not-full g count short byte (suc zero) x (omega (arith, t .tied .sized)) (t .tied .valid) (t .tied .spaced f) (t .ahead f))
+      ∙ pieces-not-full g count short byte (suc zero) x (omega (arith, t .tied .sized)) (t .tied .valid) (t .tied .spaced f) (omega (arith, t .room f)))
 
-  plan-tied : (x : State) (a : Ghost) → x .done < count → Going F x a → (p : Plan) → planOf g (x .stream) (x .memory) (count - x .done) ≡ p → NextOk g count x p
-      → Going F (doneOf g x p .state) (sees (planEvents p) a)
+  plan-tied : (x : State) (a : Ghost) → x .done < count → Going F count x a → (p : Plan) → planOf g (x .stream) (x .memory) (count - x .done) ≡ p → NextOk g count x p
+      → Going F count (doneOf g x p .state) (sees (planEvents p) a)
   unfolding doneOf note
   plan-tied x a more t Failed e k = t
   plan-tied x a more t Full e k =
@@ -52,26 +52,27 @@ module _ (F : Type 0) (g : Cyclic) (count : ℕ) (short : count ≤ 1024) (byte 
           exact = r .exact;
           past = r .past;
           spaced = r .spaced;
+          ahead = r .ahead;
           never = λ f. absurd (not-full x a more t e f);
         };
-        ahead = t .ahead;
+        room = t .room;
       }
   plan-tied x a more t (Move at n end) e k =
       record {
-        tied = tied-moved F g count byte x a at n end more k (t .tied);
-        ahead = λ f. omega (arith, t .ahead f, next-submitted (x .stream) (g .lvi) n end, next-consumed (x .stream) (g .lvi) n end);
+        tied = tied-moved F g count byte x a at n end more k (λ f. omega (arith, t .room f, k .few)) (t .tied);
+        room = λ f. omega (arith, t .room f, k .few, next-submitted (x .stream) (g .lvi) n end, next-consumed (x .stream) (g .lvi) n end);
       }
 
-  piece-tied : (x : State) (a : Ghost) → x .done < count → Going F x a
-      → Going F (pieceOf g count x .state) (sees (planEvents (planOf g (x .stream) (x .memory) (count - x .done))) a)
+  piece-tied : (x : State) (a : Ghost) → x .done < count → Going F count x a
+      → Going F count (pieceOf g count x .state) (sees (planEvents (planOf g (x .stream) (x .memory) (count - x .done))) a)
   unfolding pieceOf
   piece-tied x a more t =
       plan-tied x a more t (planOf g (x .stream) (x .memory) (count - x .done)) refl (plan-ok g (x .stream) (x .memory) (count - x .done))
 
-  pub pieces-tied : (fuel : ℕ) (x : State) (a : Ghost) → Going F x a → Going F (piecesOf fuel g count x .state) (sees (piecesEvents fuel g count x) a)
+  pub pieces-tied : (fuel : ℕ) (x : State) (a : Ghost) → Going F count x a → Going F count (piecesOf fuel g count x .state) (sees (piecesEvents fuel g count x) a)
   unfolding piecesEvents
   pieces-tied =
-      pieces-by g count (λ fuel x o. (a : Ghost) → Going F x a → Going F (o .state) (sees (piecesEvents fuel g count x) a))
+      pieces-by g count (λ fuel x o. (a : Ghost) → Going F count x a → Going F count (o .state) (sees (piecesEvents fuel g count x) a))
       (λ x a t. t)
       (λ fuel x late a t. rw (le-ltb (x .done) count late) t)
       (λ fuel x more stopped a t.

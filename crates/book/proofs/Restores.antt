@@ -99,7 +99,7 @@ module _ (s : List ℕ) (d : Hda) (h : Host) (l : List ℕ) where
           space = space;
           own = rw (accepted-stream i few (held .space))
               (tied-opening F t part (positionsOf (t .pending) (drop (placeOf s i + 34) s)) (a .full) (part-size i (restoredLists s l) few space)
-              (restored-stream s fits l (held .space) i few valid) (accepted-positions i few (held .space) number) (λ f. absurd (none f)) (held .own .never));
+              (restored-stream s fits l (held .space) i few valid) (accepted-positions i few (held .space) number) (λ f. absurd (none f)) (λ f. absurd (none f)) (held .own .never));
         }
 
     pub restore-held : (q : ℕ) → (F → checkOf d h l q ≡ 0 → numberOf s d h ≡ 0 → ⊥)

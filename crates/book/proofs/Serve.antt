@@ -97,7 +97,7 @@ module _ (nanos : ℕ) where
         (λ _. record {
           fine = taken-fine i x own (s .fine);
           held = held-own-list F i own (d .streams) (x .lists) a (s .held) (turnFor i x .turned .stream) (turnFor i x .list) (sees es a)
-              (formatted-tied F (d .regs) (d .link .codec) (x .host) (d .microphone) i nanos capacity (streamAt d i) l q (x .memory) a (s .fine .host) (s .held .own) f);
+              (formatted-tied F (d .regs) (d .link .codec) (x .host) (d .microphone) i nanos capacity (streamAt d i) l q (x .memory) a (omega arith) (s .fine .host) (s .held .own) f);
         })
         (λ _. s)
 

@@ -1,8 +1,9 @@
 -- Demand 3 whole: both starts, and what ties every stream to the book after any list of calls. Assumes nothing.
-use Prim.Native.Nat.{ℕ, _*_, _≤_, _<_}
+use Prim.Native.Nat.{ℕ, _+_, _*_, _≤_, _<_}
 use mathlib.Core.Path.{_≡_, refl, ap, subst, _∙_}
 use mathlib.Core.Bool.{Bool, true, false}
 use mathlib.Core.List.{List, _++_}
+use native.Mathlib.Omega.{arith}
 use lib.ListN.{length, length-replicate, getD-replicate}
 use Rattle.word.specs.Parts.{partOf}
 use Rattle.positions.specs.Positions.{positionsOf}
@@ -25,10 +26,14 @@ use Rattle.book.specs.Lists.{Step, run, allEvents, pendingOf, openingOf,
 use Rattle.book.specs.Claim.{Rises, Starts, new, restored, made, Accepts, Opens, Agrees, NoRestore, Spaced}
 use Rattle.book.proofs.Ghosts.{Ghost, ghost, sees, sees-book, never-full}
 use Rattle.book.proofs.Orders.{rises-all, four-apart}
-use Rattle.book.proofs.Tied.{tied-opening}
+use Rattle.book.proofs.Tied.{Tied, tied-opening}
 use Rattle.book.proofs.Machines.{Held, part-size}
 use Rattle.book.proofs.Restores.{restored-count, restored-starts}
 use Rattle.book.proofs.Calls.{run-held}
+
+fresh-ahead : stream.freshOf .submitted ≤ stream.freshOf .consumed + 16384
+unfolding stream.freshOf
+fresh-ahead = omega arith
 
 abbrev opened : ℕ → Machine → Ghost
 opened i x = ghost (openingOf i x) false
@@ -38,12 +43,13 @@ module _ (F : Type 0) (i : ℕ) (few : i < streams) where
   Begins x = Held F i (x .hda .streams) (x .lists) (opened i x)
 
   begins : (x : Machine) → length (x .hda .streams) ≡ streams → listSize * streams ≤ length (x .lists)
-      → stream.validOf (streamAt (x .hda) i) (partOf listSize i (x .lists)) ≡ true → (F → SpacedAt (streamAt (x .hda) i) (partOf listSize i (x .lists))) → Begins x
-  begins x count space valid spaced =
+      → stream.validOf (streamAt (x .hda) i) (partOf listSize i (x .lists)) ≡ true → (F → SpacedAt (streamAt (x .hda) i) (partOf listSize i (x .lists)))
+      → (F → streamAt (x .hda) i .submitted ≤ streamAt (x .hda) i .consumed + 16384) → Begins x
+  begins x count space valid spaced ahead =
       record {
         count = count;
         space = space;
-        own = tied-opening F (streamAt (x .hda) i) (partOf listSize i (x .lists)) (pendingOf i x) false (part-size i (x .lists) few space) valid refl spaced (λ _. refl);
+        own = tied-opening F (streamAt (x .hda) i) (partOf listSize i (x .lists)) (pendingOf i x) false (part-size i (x .lists) few space) valid refl spaced ahead (λ _. refl);
       }
 
   -- a new device's streams
@@ -58,7 +64,7 @@ module _ (F : Type 0) (i : ℕ) (few : i < streams) where
   new-begins : (microphone : Bool) (h : Host) (lists queues memory : List ℕ) → listSize * streams ≤ length lists → Begins (made microphone h lists queues memory)
   new-begins microphone h lists queues memory long =
       begins (made microphone h lists queues memory) (fresh-count microphone) long (rw (fresh-at microphone) (fresh-valid (partOf listSize i lists)))
-      (λ _. rw (fresh-at microphone) (fresh-spaced (partOf listSize i lists)))
+      (λ _. rw (fresh-at microphone) (fresh-spaced (partOf listSize i lists))) (λ _. rw (fresh-at microphone) fresh-ahead)
 
 -- a restored one's
 restored-begins : (i : ℕ) (few : i < streams) (s : List ℕ) (x : Machine) → Accepts s x → Begins ⊥ i few (after (calls.restore s) x)
@@ -67,7 +73,7 @@ restored-begins i few s x e =
     let y = after (calls.restore s) x in
     let q = length (x .queues) in
     let p = passed (y .hda) (y .host) (y .lists) q (restored-valid s (x .hda) (x .host) (x .lists) q (e .0)) in
-    begins ⊥ i few y (restored-count s (x .hda) (x .host) (x .lists) q (e .0) (e .1)) (p .lists) (p .streams i few) (λ f. absurd f)
+    begins ⊥ i few y (restored-count s (x .hda) (x .host) (x .lists) q (e .0) (e .1)) (p .lists) (p .streams i few) (λ f. absurd f) (λ f. absurd f)
 
 started : (i : ℕ) (few : i < streams) (x : Machine) → Starts x → Begins ⊥ i few x
 started i few x (new microphone h lists queues memory long wide) = new-begins ⊥ i few microphone h lists queues memory long
@@ -111,13 +117,17 @@ past i few cs x start =
     let t = run-held ⊥ i few cs x (opened i x) (λ f. absurd f) (started i few x start) .own in
     subst (λ (b : Book). Rises 0 (b .retired) (b .consumed)) (sees-book es (opened i x)) (t .past)
 
-pub spaced : (i : ℕ) → i < streams → (cs : List Step) (microphone : Bool) (h : Host) (lists queues memory : List ℕ) → listSize * streams ≤ length lists
-    → capacity * streams ≤ length queues → NoRestore cs (made microphone h lists queues memory) → Spaced i cs (made microphone h lists queues memory)
-spaced i few cs microphone h lists queues memory long wide none =
-    let x = made microphone h lists queues memory in
-    let es = allEvents i cs x in
-    let t = run-held (Unit {0}) i few cs x (opened i x) (λ _. none) (new-begins (Unit {0}) i few microphone h lists queues memory long) .own in
-    record {
-      apart = four-apart _ _ (pendingOf i (run cs x)) (t .spaced tt);
-      never = never-full es (opened i x) (t .never tt);
-    }
+-- with no restore
+module _ (i : ℕ) (few : i < streams) (cs : List Step) (microphone : Bool) (h : Host) (lists queues memory : List ℕ) (long : listSize * streams ≤ length lists)
+    (wide : capacity * streams ≤ length queues) (none : NoRestore cs (made microphone h lists queues memory)) where
+  abbrev first : Machine
+  first = made microphone h lists queues memory
+
+  alone : Tied (Unit {0}) (streamAt (run cs first .hda) i) (partOf listSize i (run cs first .lists)) (sees (allEvents i cs first) (opened i first))
+  alone = run-held (Unit {0}) i few cs first (opened i first) (λ _. none) (new-begins (Unit {0}) i few microphone h lists queues memory long) .own
+
+  pub spaced : Spaced i cs first
+  spaced = record { apart = four-apart _ _ (pendingOf i (run cs first)) (alone .spaced tt); never = never-full (allEvents i cs first) (opened i first) (alone .never tt) }
+
+  pub near : let s = streamAt (run cs first .hda) i in s .submitted ≤ s .consumed + 16384
+  near = alone .ahead tt

@@ -1,5 +1,5 @@
--- A stream tied to the book: its counts and pending positions are the book's, nothing is lost or retired early, it is valid; and, where `F` holds, its positions are 4 apart and the limit
--- has stopped no transfer. What each event keeps of it. Assumes nothing.
+-- A stream tied to the book: its counts and pending positions are the book's, nothing is lost or retired early, it is valid; and, where `F` holds, its positions are 4 apart, it
+-- is at most 16,384 bytes ahead of what is heard, and the limit has stopped no transfer. What each event keeps of it. Assumes nothing.
 use Prim.Native.Nat.{ℕ, _+_, _-_, _≤_, _<_, max}
 use mathlib.Core.Path.{_≡_, refl, sym, ap, subst, _∙_}
 use mathlib.Core.Bool.{Bool, true, false}
@@ -40,6 +40,7 @@ pub record Tied (F : Type 0) (s : Stream) (l : List ℕ) (a : Ghost) : Type 0 wh
   pub exact : a .book .ends ≡ a .book .retired ++ a .book .pending
   pub past : Rises 0 (a .book .retired) (a .book .consumed)
   pub spaced : F → SpacedAt s l
+  pub ahead : F → s .submitted ≤ s .consumed + 16384
   pub never : F → a .full ≡ false
 
 -- what a moved piece does to the book
@@ -80,6 +81,7 @@ module _ (F : Type 0) where
         exact = t .exact;
         past = t .past;
         spaced = t .spaced;
+        ahead = t .ahead;
         never = t .never;
       }
 
@@ -96,14 +98,15 @@ module _ (F : Type 0) where
         exact = refl;
         past = omega arith;
         spaced = λ _. fresh-spaced l;
+        ahead = λ _. omega arith;
         never = never;
       }
 
   -- the first device, or one restored: counts and positions as they are
   pub tied-opening : (s : Stream) (l ps : List ℕ) (full : Bool) → length l ≡ listSize → validOf s l ≡ true → positionsOf (s .pending) l ≡ ps → (F → SpacedAt s l)
-      → (F → full ≡ false) → Tied F s l (ghost (restoredWith (s .submitted) (s .consumed) ps) full)
-  tied-opening s l ps full sized valid e spaced never =
-      record { sized = sized; valid = valid; submitted = refl; consumed = refl; pending = e; exact = refl; past = omega arith; spaced = spaced; never = never }
+      → (F → s .submitted ≤ s .consumed + 16384) → (F → full ≡ false) → Tied F s l (ghost (restoredWith (s .submitted) (s .consumed) ps) full)
+  tied-opening s l ps full sized valid e spaced ahead never =
+      record { sized = sized; valid = valid; submitted = refl; consumed = refl; pending = e; exact = refl; past = omega arith; spaced = spaced; ahead = ahead; never = never }
 
   -- the position update
   pub tied-updated : (s : Stream) (l : List ℕ) (a : Ghost) (latency : ℕ) → Tied F s l a
@@ -132,29 +135,32 @@ module _ (F : Type 0) where
         past = rises-append 0 (b .retired) (b .consumed) (upTo c′ (b .pending)) c′ (t .past)
             (up-rises c′ (b .consumed) (b .pending) (s .submitted) (omega arith) (rises-same (t .consumed) (t .pending) refl r));
         spaced = λ f. update-spaced s l latency (v .few) room (t .spaced f);
+        ahead = λ f. omega (arith, t .ahead f);
         never = t .never;
       }
 
   -- a piece
   module _ (g : Cyclic) (count : ℕ) (byte : g .lvi ≤ 255) where
-    pub tied-moved : (x : State) (a : Ghost) (at n : ℕ) (end : End) → x .done < count → Moves g count x at n end → Tied F (x .stream) (x .list) a
+    pub tied-moved : (x : State) (a : Ghost) (at n : ℕ) (end : End) → x .done < count → Moves g count x at n end
+        → (F → x .stream .submitted + n ≤ x .stream .consumed + 16384) → Tied F (x .stream) (x .list) a
         → let y = movedOf g x at n end in Tied F (y .stream) (y .list) (see (moved n (flaggedOf end)) a)
     unfolding note
-    tied-moved x a at n end more k t =
+    tied-moved x a at n end more k room t =
         let s = x .stream in
         let b = a .book in
-        let room : 34816 ≤ length (x .list) = omega (arith, t .sized) in
+        let long : 34816 ≤ length (x .list) = omega (arith, t .sized) in
         record {
-          sized = length-list (x .list) s n end (k .room) room ∙ t .sized;
-          valid = parts-valid _ _ (moved-kept g count byte x at n end more k (room, valid-parts s (x .list) (t .valid)) .1);
+          sized = length-list (x .list) s n end (k .room) long ∙ t .sized;
+          valid = parts-valid _ _ (moved-kept g count byte x at n end more k (long, valid-parts s (x .list) (t .valid)) .1);
           submitted = next-submitted s (g .lvi) n end ∙ ap (λ (m : ℕ). m + n) (t .submitted) ∙ sym (moved-submitted n (flaggedOf end) b);
           consumed = next-consumed s (g .lvi) n end ∙ t .consumed ∙ sym (moved-consumed n (flaggedOf end) b);
-          pending = moved-positions s (x .list) (g .lvi) n end (k .room) (k .submitted) room
+          pending = moved-positions s (x .list) (g .lvi) n end (k .room) (k .submitted) long
               ∙ ap (λ (ps : List ℕ). ps ++ endedOf (s .submitted + n) end) (t .pending)
               ∙ ap (λ (m : ℕ). b .pending ++ endedOf (m + n) end) (t .submitted)
               ∙ sym (moved-pending n end b);
           exact = moved-exact n (flaggedOf end) b (t .exact);
           past = moved-past n (flaggedOf end) b (t .past);
-          spaced = λ f. moved-spaced g count x at n end k room (t .spaced f);
+          spaced = λ f. moved-spaced g count x at n end k long (t .spaced f);
+          ahead = λ f. omega (arith, room f, next-submitted s (g .lvi) n end, next-consumed s (g .lvi) n end);
           never = t .never;
         }

@@ -1,8 +1,9 @@
 -- A stream's turn keeps it tied to the book: the position update, a transfer, the rounds, the turn. Assumes nothing.
-use Prim.Native.Nat.{ℕ, zero, suc, _+_, _*_, _%_, _≤_, _<_}
-use mathlib.Core.Path.{_≡_, refl, sym}
+use Prim.Native.Nat.{ℕ, zero, suc, _+_, _-_, _*_, _/_, _%_, _≤_, _<_, min}
+use mathlib.Core.Path.{_≡_, refl, sym, _∙_}
 use mathlib.Core.Bool.{Bool, true, false, true≢false}
 use mathlib.Core.List.{List, [], _∷_}
+use mathlib.Core.Logic.{_⊎_, inl, inr, ⊎-elim}
 use native.Mathlib.Omega.{arith}
 use borrow.Author.Tests.{leb-true, eqb-false}
 use lib.Dec.{leb, eqb}
@@ -10,6 +11,7 @@ use lib.ListN.{length}
 use Rattle.format.specs.declared.Format.{Format}
 use Rattle.format.specs.declared.Format.the-variants.{Unsupported, Rate}
 use Rattle.codec.specs.declared.Codec.{Codec}
+use Rattle.clock.specs.Frames.{wholeFramesOf}
 use Rattle.clock.proofs.Theorems.{accrue-bound}
 use Rattle.stream.specs.declared.Stream.{Stream}
 use Rattle.stream.specs.declared.Cyclic.{Cyclic}
@@ -46,24 +48,14 @@ ready-byte g =
     by-cond (λ (b : Bool). b ≡ true → g .lvi ≤ 255) (eqb (g .cbl) 0) false _ (λ _ z. absurd (true≢false (sym z)))
     (λ _. by-cond (λ (b : Bool). b ≡ true → g .lvi ≤ 255) (eqb (g .cbl % 4) 0) (leb (g .lvi) 255) false (λ _. leb-true (g .lvi) 255) (λ _ z. absurd (true≢false (sym z))))
 
-latency-few : (q : Queue) (capture : Bool) (downstream : ℕ) → q .length ≤ capacity → downstream ≤ 14336 → latencyOf q capture downstream ≤ 16384
-unfolding latencyOf
-latency-few q capture downstream few down =
-    by-cond (λ (n : ℕ). n ≤ 16384) capture 0 _ (λ _. omega arith) (λ _. by-cond (λ (n : ℕ). n ≤ 16384) (q .live) (q .length + downstream) 0 (λ _. omega arith) (λ _. omega arith))
-
-update-near : (s : Stream) (l : List ℕ) (latency : ℕ) → latency ≤ 16384
-    → let u = updateOf s l latency .updated .stream in u .submitted ≤ u .consumed + 16384
+pub update-near : (s : Stream) (l : List ℕ) (latency : ℕ) → let u = updateOf s l latency .updated .stream in u .submitted ≤ u .consumed + latency
 unfolding updateOf
-update-near s l latency few = omega arith
+update-near s l latency = omega arith
 
--- tied, with a queue within its capacity; and, after an update, at most 16,384 bytes ahead of what is heard
+-- tied, with a queue within its capacity
 record Still (F : Type 0) (s : Stream) (q : Queue) (l : List ℕ) (a : Ghost) : Type 0 where
   pub tied : Tied F s l a
   pub queued : q .length ≤ capacity
-
-record Heard (F : Type 0) (s : Stream) (q : Queue) (l : List ℕ) (a : Ghost) : Type 0 where
-  pub still : Still F s q l a
-  pub near : F → s .submitted ≤ s .consumed + 16384
 
 module _ (F : Type 0) where
   -- a failure
@@ -71,35 +63,50 @@ module _ (F : Type 0) where
   unfolding stoppedOf
   stopped-still e l a t = record { tied = tied-times F (e .stream) l a _ (λ _. omega arith) (t .tied); queued = omega arith }
 
-  stopped-heard : (e : Engine) (l : List ℕ) (a : Ghost) → Heard F (e .stream) (e .queue) l a → Heard F (stoppedOf e .stream) (stoppedOf e .queue) l a
+  stopped-off : (e : Engine) → stoppedOf e .running ≡ false
   unfolding stoppedOf
-  stopped-heard e l a t = record { still = stopped-still e l a (t .still); near = t .near }
+  stopped-off e = refl
 
   stopped-none : (g : Setup) (e : Engine) → framesOf g (stoppedOf e) ≡ 0
   unfolding stoppedOf
   stopped-none g e = omega (arith, frames-few g (stoppedOf e) .0)
 
-  module _ (g : Setup) (down : g .downstream ≤ 14336) where
+  module _ (g : Setup) (down : g .downstream ≤ 14336) (limited : g .limit ≤ capacity) where
+    -- the frames of the next transfer fit behind what the host holds
+    frames-room : (e : Engine) → e .queue .length ≤ capacity → 4 * framesOf g e + latencyOf (e .queue) (g .cyclic .capture) (g .downstream) ≤ 16384
+    unfolding framesOf latencyOf
+    frames-room e few =
+        let n = min (min (wholeFramesOf (e .stream .fraction)) 256) ((g .limit - e .queue .length) / 4) in
+        by-both (λ (n k : ℕ). 4 * n + k ≤ 16384) (g .cyclic .capture) _ n 0 _ (λ _. omega arith)
+        (λ _. by-cond (λ (k : ℕ). 4 * n + k ≤ 16384) (e .queue .live) (e .queue .length + g .downstream) 0 (λ _. omega arith) (λ _. omega arith))
+
+    -- between transfers: while it runs, and where frames are due, an update came before, so that it is ahead by no more than the host holds
+    record Heard (e : Engine) (l : List ℕ) (a : Ghost) : Type 0 where
+      still : Still F (e .stream) (e .queue) l a
+      near : (e .running ≡ true) ⊎ (0 < framesOf g e) → e .stream .submitted ≤ e .stream .consumed + latencyOf (e .queue) (g .cyclic .capture) (g .downstream)
+
+    stopped-heard : (e : Engine) (l : List ℕ) (a : Ghost) → Still F (e .stream) (e .queue) l a → Heard (stoppedOf e) l a
+    stopped-heard e l a t =
+        record { still = stopped-still e l a t; near = ⊎-elim (λ z. absurd (true≢false (sym z ∙ stopped-off e))) (λ some. absurd (omega (arith, some, stopped-none g e))) }
+
     -- the position update
     updated-heard : (e : Engine) (l m : List ℕ) (a : Ghost) → Still F (e .stream) (e .queue) l a
-        → let u = updatedOf g e l m in Heard F (u .engine .stream) (u .engine .queue) (u .list) (see (updateEvent g e) a)
+        → let u = updatedOf g e l m in Heard (u .engine) (u .list) (see (updateEvent g e) a)
     unfolding updatedOf
     updated-heard e l m a t =
         let latency = latencyOf (e .queue) (g .cyclic .capture) (g .downstream) in
         let u = updateOf (e .stream) l latency in
         let a′ = see (updateEvent g e) a in
         let e′ = movedOn g e (u .updated .stream) (u .updated .completed) in
-        let heard : Heard F (e′ .stream) (e′ .queue) (u .list) a′ = record {
-          still = record { tied = tied-updated F (e .stream) l a latency (t .tied); queued = t .queued };
-          near = λ _. update-near (e .stream) l latency (latency-few (e .queue) (g .cyclic .capture) (g .downstream) (t .queued) down);
-        } in
-        publish-by g e′ m (λ e″. Heard F (e″ .stream) (e″ .queue) (u .list) a′) heard (stopped-heard e′ (u .list) a′ heard)
+        let still : Still F (e′ .stream) (e′ .queue) (u .list) a′ = record { tied = tied-updated F (e .stream) l a latency (t .tied); queued = t .queued } in
+        publish-by g e′ m (λ e″. Heard e″ (u .list) a′) (record { still = still; near = λ _. update-near (e .stream) l latency }) (stopped-heard e′ (u .list) a′ still)
 
     -- a transfer
-    moved-still : (x : Work) (n : ℕ) (a : Ghost) → n ≤ 256 → Heard F (x .engine .stream) (x .engine .queue) (x .list) a
+    moved-still : (x : Work) (n : ℕ) (a : Ghost) → n ≤ 256 → Still F (x .engine .stream) (x .engine .queue) (x .list) a
+        → (F → x .engine .stream .submitted + 4 * n ≤ x .engine .stream .consumed + 16384)
         → let t = transferAt g x n in Still F (t .transferred .stream) (t .transferred .queue) (t .list) (sees (transferEvents g x (4 * n)) a)
     unfolding transferOf captureOf playbackOf transferEvents note
-    moved-still x n a short h =
+    moved-still x n a short h room =
         let e = x .engine in
         let c = g .cyclic in
         let s = e .stream in
@@ -114,21 +121,19 @@ module _ (F : Type 0) where
         record {
           tied = by-both P (readyOf c) _ (transferOut false false s q (x .list) (x .part) (x .memory)) _ (failed false ∷ [])
               (λ ready.
-              let each : (pcm : List ℕ) → Going F (piecesOf count c count (start pcm) .state) (sees (piecesEvents count c count (start pcm)) a) =
+              let each : (pcm : List ℕ) → Going F count (piecesOf count c count (start pcm) .state) (sees (piecesEvents count c count (start pcm)) a) =
               λ pcm. pieces-tied F c count (omega arith) (ready-byte c ready) count (start pcm) a
-              (record { tied = h .still .tied; ahead = λ f. omega (arith, h .near f) }) in
+              (record { tied = h .tied; room = λ f. omega (arith, room f) }) in
               by-both Q (c .capture) (captureOf c s q (g .connected) (g .left) (g .right) (x .list) (x .part) (x .memory) count)
               (playbackOf c s q (g .connected) (g .left) (g .right) (x .list) (x .part) (x .memory) count) sound (silence count)
               (λ _. each sound .tied)
               (λ _. by-cond (λ t. Q t (silence count)) (o .ok) _ (withPieces o q (x .part)) (λ _. each (silence count) .tied) (λ _. each (silence count) .tied)))
-              (λ _. h .still .tied);
-          queued = transfer-queued c s q (g .connected) (g .left) (g .right) (x .list) (x .part) (x .memory) count (h .still .queued);
+              (λ _. h .tied);
+          queued = transfer-queued c s q (g .connected) (g .left) (g .right) (x .list) (x .part) (x .memory) count (h .queued);
         }
 
-    -- between rounds: where frames are due, an update came before
-    record Ready (x : Work) (a : Ghost) : Type 0 where
-      still : Still F (x .engine .stream) (x .engine .queue) (x .list) a
-      near : F → 0 < framesOf g (x .engine) → x .engine .stream .submitted ≤ x .engine .stream .consumed + 16384
+    abbrev Ready : Work → Ghost → Type 0
+    Ready x a = Heard (x .engine) (x .list) a
 
     round-ready : (x : Work) (a : Ghost) → 0 < framesOf g (x .engine) → Ready x a → Ready (roundOf g x) (sees (roundEvents g x) a)
     unfolding roundOf settledOf roundEvents
@@ -139,18 +144,15 @@ module _ (F : Type 0) where
         let t′ = t .transferred in
         let es = transferEvents g x (4 * n) in
         let a′ = sees es a in
-        let moved = moved-still x n a (frames-few g e .1) (record { still = r .still; near = λ f. r .near f some }) in
+        let moved = moved-still x n a (frames-few g e .1) (r .still) (λ _. omega (arith, r .near (inr some), frames-room e (r .still .queued))) in
         let e′ = transferredOf e (t′ .stream) (t′ .queue) n in
         let e″ = engine (e .running) (e .status) (e .position) (t′ .stream) (t′ .queue) in
         let P : Updated → List Event → Type 0 = λ u fs. Ready (withUpdated u (t .part)) (sees fs a′) in
-        let on : t′ .ok ≡ true → P (updatedOf g e′ (t .list) (t .memory)) (updateEvent g e′ ∷ []) = λ _.
-        let h = updated-heard e′ (t .list) (t .memory) a′
-        (record { tied = tied-times F (t′ .stream) (t .list) a′ _ (λ before. omega arith) (moved .tied); queued = moved .queued }) in
-        record { still = h .still; near = λ f _. h .near f } in
-        let off : t′ .ok ≡ false → P (updateOut (failedOf e (t′ .stream) (t′ .queue)) (t .list) (t .memory)) [] = λ _.
-        record { still = stopped-still e″ (t .list) a′ moved; near = λ (f : F) (due : 0 < framesOf g (stoppedOf e″)). absurd (omega (arith, stopped-none g e″)) } in
         rw (sees-append es (onlyIf (t′ .ok) (updateEvent g e′ ∷ [])) a)
-        (by-both P (t′ .ok) (updatedOf g e′ (t .list) (t .memory)) _ (updateEvent g e′ ∷ []) [] on off)
+        (by-both P (t′ .ok) (updatedOf g e′ (t .list) (t .memory)) _ (updateEvent g e′ ∷ []) []
+        (λ _. updated-heard e′ (t .list) (t .memory) a′
+        (record { tied = tied-times F (t′ .stream) (t .list) a′ _ (λ before. omega arith) (moved .tied); queued = moved .queued }))
+        (λ _. stopped-heard e″ (t .list) a′ moved))
 
     again-still : (b : Bool) (x : Work) (a : Ghost) (rest : Work → Work) (events : Work → List Event) → eqb (framesOf g (x .engine)) 0 ≡ b
         → ((y : Work) (a′ : Ghost) → Ready y a′ → let z = rest y in Still F (z .engine .stream) (z .engine .queue) (z .list) (sees (events y) a′))
@@ -176,10 +178,10 @@ module _ (F : Type 0) where
         let s = y .engine .stream in
         let e = accruedOf rate nanos (y .engine) in
         by-both (λ (z : Work) (es : List Event). Tied F (z .engine .stream) (z .list) (sees es a′)) (y .engine .running) (timedOf g rate nanos y) y (timedEvents g rate nanos y) []
-        (λ _. rounds-still (dueOf e) (workOf e (y .list) (y .part) (y .memory)) a′
+        (λ on. rounds-still (dueOf e) (workOf e (y .list) (y .part) (y .memory)) a′
         (record {
           still = record { tied = tied-times F s (y .list) a′ _ (λ _. accrue-bound rate nanos (s .fraction)) (h .still .tied); queued = h .still .queued };
-          near = λ f _. h .near f;
+          near = λ _. h .near (inl on);
         }) .tied)
         (λ _. h .still .tied)
 
@@ -192,8 +194,12 @@ setup-down : (regs : List ℕ) (codec : Codec) (i : ℕ) (h : Host) (limit : ℕ
 unfolding setupOf
 setup-down regs codec i h limit v = down-few h v
 
+setup-limit : (regs : List ℕ) (codec : Codec) (i downstream limit : ℕ) → limit ≤ capacity → setupOf regs codec i downstream limit .limit ≤ capacity
+unfolding setupOf
+setup-limit regs codec i downstream limit few = few
+
 module _ (F : Type 0) (regs : List ℕ) (codec : Codec) (h : Host) (microphone : Bool) (i nanos limit : ℕ) (s : Stream) (l part m : List ℕ) (a : Ghost)
-    (host : hosts.validOf h ≡ true) (t : Tied F s l a) where
+    (limited : limit ≤ capacity) (host : hosts.validOf h ≡ true) (t : Tied F s l a) where
   begins : (h′ : Host) → hosts.validOf h′ ≡ true → Still F s (queueAt h′ i) l a
   begins h′ v = record { tied = t; queued = queue-bound (queueAt h′ i) (valid-queue h′ v i) }
 
@@ -209,5 +215,5 @@ module _ (F : Type 0) (regs : List ℕ) (codec : Codec) (h : Host) (microphone :
       let down : g .downstream ≤ 14336 = setup-down regs codec i (o .host) limit v in
       let x = workOf e l part m in
       by-both (λ (r : Turn) (es : List Event). Tied F (r .turned .stream) (r .list) (sees es a)) (o .ok) _ _ _ []
-      (λ _. served-tied F g down rate nanos x a (begins (o .host) v))
+      (λ _. served-tied F g down (setup-limit regs codec i (o .host .downstream) limit limited) rate nanos x a (begins (o .host) v))
       (λ _. stopped-still F e l a (begins (o .host) v) .tied)

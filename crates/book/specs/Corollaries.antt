@@ -1,17 +1,21 @@
 -- What follows from demand 3, and what a stream's turn leaves in its position register.
-use Prim.Native.Nat.{ℕ, _+_, _≤_, _<_}
+use Prim.Native.Nat.{ℕ, _+_, _*_, _≤_, _<_}
 use mathlib.Core.Path.{_≡_}
 use mathlib.Core.Bool.{Bool, true, cond}
 use mathlib.Core.List.{List, [], _∷_}
 use lib.Dec.{eqb}
+use lib.ListN.{length}
 use Rattle.stream.specs.Box.{streams}
-use Rattle.queue.specs.Queues.{latencyOf}
+use Rattle.queue.specs.Queues.{capacity, latencyOf}
+use Rattle.host.specs.declared.Host.{Host}
+use Rattle.host.specs.Hosts.{maxDownstream}
 use Rattle.turn.specs.declared.Setup.{Setup}
 use Rattle.turn.specs.declared.Engine.{Engine}
 use Rattle.turn.specs.Engines.{Work, positionOf, servedOf}
+use Rattle.device.specs.Devices.{listSize, streamAt}
 use Rattle.device.specs.Machines.{Machine}
-use Rattle.book.specs.Lists.{Step, bookOf}
-use Rattle.book.specs.Claim.{Starts}
+use Rattle.book.specs.Lists.{Step, run, bookOf}
+use Rattle.book.specs.Claim.{made, Starts, NoRestore}
 
 -- how often a position stands in a list
 abbrev pub times : ℕ → List ℕ → ℕ
@@ -37,3 +41,9 @@ pub record Told (g : Setup) (e : Engine) : Type 0 where
 pub record Corollaries : Type 0 where
   pub once : (i : ℕ) → i < streams → (cs : List Step) (x : Machine) → Starts x → Once i cs x
   pub told : (g : Setup) (rate nanos : ℕ) (x : Work) → Told g (servedOf g rate nanos x .engine)
+  -- With no restore accepted before or in the list, submitted is at most a full queue and the largest downstream count ahead of consumed: 16,384 bytes, a transfer
+  -- that fails included. What the host holds at that time cannot stand there: a pull takes frames out of the queue before the next turn moves consumed.
+  pub near : (i : ℕ) → i < streams → (cs : List Step) (microphone : Bool) (h : Host) (lists queues memory : List ℕ) → listSize * streams ≤ length lists
+      → capacity * streams ≤ length queues
+      → NoRestore cs (made microphone h lists queues memory)
+      → let s = streamAt (run cs (made microphone h lists queues memory) .hda) i in s .submitted ≤ s .consumed + (capacity + maxDownstream)
