@@ -1,19 +1,31 @@
--- What follows from demand 3, and what a stream's turn leaves in its position register.
+-- What follows from demand 3: no completion dropped or reported twice, the position register after a turn, and how far a stream is ahead of what is heard.
 use Prim.Native.Nat.{ℕ, _+_, _*_, _≤_, _<_}
 use mathlib.Core.Path.{_≡_}
 use mathlib.Core.Bool.{Bool, true, cond}
 use mathlib.Core.List.{List, [], _∷_}
 use lib.Dec.{eqb}
 use lib.ListN.{length}
+use Rattle.word.specs.Value.{Bytes}
+use Rattle.word.specs.Place.{wordAt}
+use Rattle.format.specs.declared.Format.the-variants.{Unsupported}
+use Rattle.format.specs.Format.{formatOf}
 use Rattle.stream.specs.Box.{streams}
 use Rattle.queue.specs.Queues.{capacity, latencyOf}
 use Rattle.host.specs.declared.Host.{Host}
 use Rattle.host.specs.Hosts.{maxDownstream}
+use Rattle.registers.specs.Places.{size, lpib, cbl, fmt}
 use Rattle.turn.specs.declared.Setup.{Setup}
 use Rattle.turn.specs.declared.Engine.{Engine}
 use Rattle.turn.specs.Engines.{Work, positionOf, servedOf}
+use Rattle.turn.specs.Turns.{openStreamOf}
+use Rattle.device.specs.declared.Hda.{Hda}
 use Rattle.device.specs.Devices.{listSize, streamAt}
 use Rattle.device.specs.Machines.{Machine}
+use Rattle.serve.specs.Serve.{Turns, runs, turnAt}
+use Rattle.calls.specs.Calls as calls
+use Rattle.calls.specs.Calls.{after}
+use Rattle.book.specs.Book.{Event}
+use Rattle.book.specs.Events.{eventsOf}
 use Rattle.book.specs.Lists.{Step, run, bookOf}
 use Rattle.book.specs.Claim.{made, Starts, NoRestore}
 
@@ -38,9 +50,34 @@ pub record Told (g : Setup) (e : Engine) : Type 0 where
   -- while the stream runs, bytes submitted and not consumed are at most those that the host holds: queue and downstream for a playback, none for a capture
   pub ahead : e .running ≡ true → e .stream .submitted ≤ e .stream .consumed + latencyOf (e .queue) (g .cyclic .capture) (g .downstream)
 
+-- Stream i's position register has consumed modulo the cyclic length, or 0 where that is 0, by the registers as they stand.
+abbrev pub Shows : ℕ → Hda → Type 0
+Shows i d = wordAt 4 (lpib i) (d .regs) ≡ positionOf (streamAt d i .consumed) (wordAt 4 (cbl i) (d .regs))
+
+-- what its type says of a device: 256 registers, each a byte, and every stream
+pub record Whole (d : Hda) : Type 0 where
+  pub sized : length (d .regs) ≡ size
+  pub bytes : Bytes (d .regs)
+  pub count : length (d .streams) ≡ streams
+
+-- a stream's turn serves it: it runs, its format is supported, its opening is not refused
+pub record Served (i : ℕ) (x : Machine) : Type 0 where
+  pub runs : runs (x .hda .regs) i ≡ true
+  pub format : formatOf (wordAt 2 (fmt i) (x .hda .regs)) ≡ Unsupported → ⊥
+  pub opens : openStreamOf (x .host) (x .hda .microphone) i .ok ≡ true
+
+-- the book has an event: of an `advance`, that it served the stream
+abbrev pub Some : List Event → Type 0
+Some [] = ⊥
+Some (e ∷ es) = Unit {0}
+
 pub record Corollaries : Type 0 where
   pub once : (i : ℕ) → i < streams → (cs : List Step) (x : Machine) → Starts x → Once i cs x
   pub told : (g : Setup) (rate nanos : ℕ) (x : Work) → Told g (servedOf g rate nanos x .engine)
+  -- a turn that serves a stream leaves its position register as `Shows` says, and so does the `advance` that served it, whatever the later streams did
+  pub turned : (i : ℕ) → i < streams → (nanos : ℕ) (w : Turns) → Whole (w .machine .hda) → Served i (w .machine) → Shows i (turnAt nanos i w .machine .hda)
+  pub advanced : (i : ℕ) → i < streams → (nanos : ℕ) (x : Machine) → Whole (x .hda) → Some (eventsOf i (calls.advance nanos) x)
+      → Shows i (after (calls.advance nanos) x .hda)
   -- With no restore accepted before or in the list, submitted is at most a full queue and the largest downstream count ahead of consumed: 16,384 bytes, a transfer
   -- that fails included. What the host holds at that time cannot stand there: a pull takes frames out of the queue before the next turn moves consumed.
   pub near : (i : ℕ) → i < streams → (cs : List Step) (microphone : Bool) (h : Host) (lists queues memory : List ℕ) → listSize * streams ≤ length lists
