@@ -1,14 +1,18 @@
 -- Laws of a write's bytes. Assumes nothing.
 use Prim.Native.Nat.{ℕ, _+_, _≤_, _<_}
 use mathlib.Core.Path.{_≡_, refl, _∙_}
+use mathlib.Core.Bool.{true, false, not}
 use mathlib.Core.List.{List, [], _∷_}
 use native.Mathlib.Omega.{arith}
 use native.Mathlib.Numerals.{add-one}
-use borrow.Author.Tests.{le-ltb}
+use borrow.Author.Tests.{le-ltb, lt-ltb, not-true}
+use lib.Dec.{eqb}
 use lib.ListN.{length, drop, getD}
 use lib.Seq.{drop-cons, drop-length}
-use Rattle.registers.specs.Places.{size}
-use Rattle.bus.specs.Bus.{Front, byteOf, bytesOf}
+use Rattle.registers.specs.Places.{size, rirbwp, icis}
+use Rattle.registers.specs.Writes.{writeByteOf}
+use Rattle.registers.proofs.Tests.{both}
+use Rattle.bus.specs.Bus.{Front, frontOf, byteOf, plainOf, bytesOf}
 
 -- past the file every byte is dropped
 byte-far : (x : Front) (a b : ℕ) → size ≤ a → byteOf x a b ≡ x
@@ -19,6 +23,13 @@ pub bytes-far : (x : Front) (a : ℕ) (bs : List ℕ) → size ≤ a → bytesOf
 unfolding bytesOf
 bytes-far x a [] far = refl
 bytes-far x a (b ∷ bs) far = bytes-far (byteOf x a b) (a + 1) bs (omega arith) ∙ byte-far x a b far
+
+-- a byte that changes the registers alone
+pub byte-plain : (x : Front) (a b : ℕ) → a < size → plainOf a ≡ true → frontOf (writeByteOf (x .regs) a b) (x .link) ≡ byteOf x a b
+unfolding byteOf
+byte-plain x a b inside plain =
+    let t = both (not (eqb a (rirbwp + 1))) (not (eqb a icis)) plain in
+    rw (lt-ltb a size inside, not-true (eqb a (rirbwp + 1)) (t .0), not-true (eqb a icis) (t .1))
 
 module _ (x : Front) (a i : ℕ) (bs : List ℕ) where
   -- byte i leaves y, and those behind it go on from there

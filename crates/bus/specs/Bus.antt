@@ -1,6 +1,6 @@
 -- The bytes of a guest's write to the registers, in order (document 01: "Bytes of one write act in order"; the loop of the Rust's `BusDevice::write`).
 use Prim.Native.Nat.{ℕ, _+_}
-use mathlib.Core.Bool.{cond}
+use mathlib.Core.Bool.{Bool, cond, not, _&&_}
 use mathlib.Core.List.{List, [], _∷_}
 use lib.Dec.{eqb, ltb}
 use Rattle.word.specs.Place.{storeAt}
@@ -33,6 +33,10 @@ byteOf x a b =
     (cond (eqb a (rirbwp + 1)) (restartOf x b)
     (cond (eqb a icis) (commandOf x (immediateOf (x .regs) (x .link .codec) b)) (frontOf (writeByteOf (x .regs) a b) (x .link))))
     x
+
+-- a byte of the file that changes the registers alone
+abbrev pub plainOf : ℕ → Bool
+plainOf a = not (eqb a (rirbwp + 1)) && not (eqb a icis)
 
 -- the bytes in order from `a` on
 unfoldable pub bytesOf : Front → ℕ → List ℕ → Front

@@ -4,7 +4,7 @@ use rings::Link;
 ghost use mathlib.Core.Path.{_≡_};
 ghost use Prim.Native.Nat.{_<_};
 ghost use Rattle.registers.specs.Places.{size};
-ghost use Rattle.bus.specs.Bus.{frontOf, byteOf, bytesOf};
+ghost use Rattle.bus.specs.Bus.{frontOf, byteOf, plainOf, bytesOf};
 
 // A byte of the file.
 fn write_byte(regs: &mut Registers, link: Link, a: usize, byte: u8) -> Link
@@ -32,6 +32,13 @@ fn write_byte(regs: &mut Registers, link: Link, a: usize, byte: u8) -> Link
     link
 }
 
+// Whether a byte of the file changes the registers alone.
+fn is_plain(a: usize) -> bool
+    ensures { λ r. ⌜ r ≡ plainOf a ⌝ }
+{
+    (a != registers::RIRBWP + 1) & (a != registers::ICIS)
+}
+
 // The bytes in order from `offset` on.
 pub fn write(regs: &mut Registers, link: Link, offset: u64, bytes: &[u8]) -> Link
     ensures { λ r. ⌜ frontOf (now (regs .exit)) r ≡ bytesOf (frontOf (now (regs .entry)) link) offset (now (bytes .entry)) ⌝ }
@@ -44,10 +51,17 @@ pub fn write(regs: &mut Registers, link: Link, offset: u64, bytes: &[u8]) -> Lin
         if address >= registers::SIZE as u64 {
             return l;
         }
-        let next = write_byte(regs, l, address as usize, bytes[i]);
-        l = next;
+        let a = address as usize;
+        let byte = bytes[i];
         address += 1;
         i += 1;
+        // Most bytes leave the link alone, and need not be handed it.
+        if is_plain(a) {
+            registers::write_byte(regs, a, byte);
+            continue;
+        }
+        let next = write_byte(regs, l, a, byte);
+        l = next;
     }
     l
 }

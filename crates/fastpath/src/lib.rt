@@ -157,5 +157,11 @@ pub fn config_write(
     let mut config = record::load_block(device, 6);
     configuration::write(&mut config, 4 * register + offset, bytes);
     let mut regs = record::load_block(device, 262);
-    conclude(device, &mut config, &mut regs, record::load_link(device), memory)
+    conclude(
+        device,
+        &mut config,
+        &mut regs,
+        record::load_link(device),
+        memory,
+    )
 }

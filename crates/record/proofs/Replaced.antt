@@ -34,7 +34,7 @@ over at new l front old rest e p n =
     let both : length (front ++ old) ≡ at + length new = omega (arith, length-append front old, p, n) in
     let first : take at l ≡ front = ap (take at) e ∙ take-at front (old ++ rest) at p in
     let last : drop (at + length new) l ≡ rest =
-        ap (drop (at + length new)) (e ∙ sym (append-assoc front old rest)) ∙ drop-at (front ++ old) rest (at + length new) both in
+    ap (drop (at + length new)) (e ∙ sym (append-assoc front old rest)) ∙ drop-at (front ++ old) rest (at + length new) both in
     rw (first, last)
 
 -- what stands before the files

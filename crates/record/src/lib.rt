@@ -121,13 +121,7 @@ pub fn store_device(hda: Hda, into: &mut [u8])
 }
 
 // A device in its record with other files, link and message latch; its streams, its clock and the two flags stay where they are.
-pub fn replace(
-    into: &mut [u8],
-    config: &Config,
-    regs: &Registers,
-    link: Link,
-    asserted: bool,
-)
+pub fn replace(into: &mut [u8], config: &Config, regs: &Registers, link: Link, asserted: bool)
     requires { ⌜ (length (now into) ≡ deviceSize) × (isDevice (now into) ≡ true) ⌝ }
     ensures { λ _. ⌜ now (into .exit) ≡ deviceBytes (replacedIn (deviceAt (now (into .entry))) (now (config .entry)) (now (regs .entry)) link asserted) ⌝ }
 {

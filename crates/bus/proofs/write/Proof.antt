@@ -1,11 +1,12 @@
 -- `write` meets its contract. The invariant: the bytes from `i` on, at `address`, leave what all of them leave of the registers and the link as they were where
 -- the loop began. Assumes nothing.
-use Prim.Native.Nat.{_-_, _≤_}
-use mathlib.Core.Path.{_≡_, refl, sym, _∙_}
+use Prim.Native.Nat.{ℕ, _-_, _≤_}
+use mathlib.Core.Path.{_≡_, refl, sym, ap, _∙_}
+use mathlib.Core.List.{List}
 use native.Mathlib.Omega.{arith}
 use lib.ListN.{length, drop}
 use Rattle.bus.specs.Bus.{frontOf, bytesOf}
-use Rattle.bus.proofs.Laws.{bytes-far, bytes-step, bytes-end}
+use Rattle.bus.proofs.Laws.{bytes-far, byte-plain, bytes-step, bytes-end}
 use Rattle.bus.proofs.write.Statement.{statement}
 use Rattle.bus.proofs.write.Tie as tie
 
@@ -24,25 +25,19 @@ returns c =
     let l = c .before .before .loop in
     sym (bytes-far _ _ _ (c .if1 .taken)) ∙ l .inv .1
 
-shared-slice-read-write-byte : tie.Need-shared-slice-read-write-byte Inv-loop μ-loop
-shared-slice-read-write-byte c = omega arith
-
-write-byte-requires : tie.Need-write-byte-requires Inv-loop μ-loop
-write-byte-requires c κs = omega arith
-
-add-address : tie.Need-add-address Inv-loop μ-loop
-add-address c = omega arith
-
-add-i : tie.Need-add-i Inv-loop μ-loop
-add-i c = omega arith
-
-loop-less : tie.Need-loop-less Inv-loop μ-loop
-loop-less c = omega arith
-
+-- a byte that changes the registers alone
 loop-again : tie.Need-loop-again Inv-loop μ-loop
 loop-again c =
-    let l = c .before .before .before .before .before .loop in
-    (omega arith, bytes-step (frontOf (l .regs) (l .l)) (l .address) (l .i) _ _ (omega arith) (c .write-byte .ensures) ∙ l .inv .1)
+    let l = c .before .before .before .before .before .before .before .loop in
+    let plain = sym (c .before .before .before .is-plain .ensures) ∙ c .before .before .if2 .taken in
+    let whole =
+    ap (λ (regs : List ℕ). frontOf regs (l .l)) (c .write-byte .ensures) ∙ byte-plain (frontOf (l .regs) (l .l)) (l .address) _ (omega arith) plain in
+    (omega arith, bytes-step (frontOf (l .regs) (l .l)) (l .address) (l .i) _ _ (omega arith) whole ∙ l .inv .1)
+
+loop-again-2 : tie.Need-loop-again-2 Inv-loop μ-loop
+loop-again-2 c =
+    let l = c .before .before .before .before .before .before .before .loop in
+    (omega arith, bytes-step (frontOf (l .regs) (l .l)) (l .address) (l .i) _ _ (omega arith) (c .write-byte2 .ensures) ∙ l .inv .1)
 
 returns-2 : tie.Need-returns-2 Inv-loop μ-loop
 returns-2 c =
@@ -57,10 +52,10 @@ write-spec =
     μ-loop
     loop-holds
     returns
-    shared-slice-read-write-byte
-    write-byte-requires
-    add-address
-    add-i
-    loop-less
+    -- the byte's place, and the next one's
+    (λ c. omega arith) (λ c. omega arith) (λ c. omega arith) (λ c κs. omega arith)
+    (λ c κs. omega arith) (λ c. omega arith)
     loop-again
+    (λ c κs. omega arith) (λ c. omega arith)
+    loop-again-2
     returns-2)

@@ -35,8 +35,8 @@ conclude-requires c κs =
     let start = t .before .before .before .before .before .before .before .before .before .before .before .before .before .before .before .before .before in
     let a = start .args in
     let few =
-        next-few (a .device .now) (a .lists .now) (a .queues .now) (a .memory .now) (a .host) (k .result) (k .ensures) (a .offset) (a .bytes .now) (t .before .before .before .before .before .before .before .before .before .if1 .left)
-        (old .result) (w .last .0) (link .result) (w .result) (old .ensures) (link .ensures) (w .ensures) in
+    next-few (a .device .now) (a .lists .now) (a .queues .now) (a .memory .now) (a .host) (k .result) (k .ensures) (a .offset) (a .bytes .now) (t .before .before .before .before .before .before .before .before .before .if1 .left)
+    (old .result) (w .last .0) (link .result) (w .result) (old .ensures) (link .ensures) (w .ensures) in
     (start .pre .0, start .pre .1, few)
 
 returns-3 : tie.Need-returns-3

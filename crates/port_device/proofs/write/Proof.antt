@@ -61,8 +61,8 @@ stored-requires c κs =
     let t = c .before .before .before .before .before .before .before .before .before .before .before .before .before .before .before .before .before .before in
     let a = t .before .before .before .before .before .before .before .before .before .before .args in
     let r =
-        left-machine (writeOf (a .offset) (a .bytes .now)) (lent (a .device .now) (a .host .now) (a .lists .now) (a .queues .now) (a .memory .now)) (sym (t .before .is-machine .ensures) ∙ not-false _ (t .if1 .left)) (h .result) (h .ensures) (tried (q .result) (q .last .0) (q .last .1 .1 .1 .1 .0))
-        (write-kept (a .offset) (a .bytes .now) (a .device .now) (machine (deviceAt (a .device .now)) (h .result) (a .lists .now) (a .queues .now) (a .memory .now)) (tried (q .result) (q .last .0) (q .last .1 .1 .1 .1 .0)) (q .ensures) (c .before .before .before .before .before .before .before .before .if2 .left)) in
+    left-machine (writeOf (a .offset) (a .bytes .now)) (lent (a .device .now) (a .host .now) (a .lists .now) (a .queues .now) (a .memory .now)) (sym (t .before .is-machine .ensures) ∙ not-false _ (t .if1 .left)) (h .result) (h .ensures) (tried (q .result) (q .last .0) (q .last .1 .1 .1 .1 .0))
+    (write-kept (a .offset) (a .bytes .now) (a .device .now) (machine (deviceAt (a .device .now)) (h .result) (a .lists .now) (a .queues .now) (a .memory .now)) (tried (q .result) (q .last .0) (q .last .1 .1 .1 .1 .0)) (q .ensures) (c .before .before .before .before .before .before .before .before .if2 .left)) in
     (device-sized (q .last .0) (a .host .now) r, host-sized (q .last .0) (a .host .now) r)
 
 returns-3 : tie.Need-returns-3
