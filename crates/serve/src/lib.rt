@@ -5,7 +5,7 @@ use registers::Registers;
 use stream::STREAMS;
 use stream::Stream;
 ghost use mathlib.Core.Path.{_≡_};
-ghost use mathlib.Core.Bool.{false};
+ghost use mathlib.Core.Bool.{true, false};
 ghost use Prim.Native.Nat.{_<_};
 ghost use Rattle.stream.specs.Box.{streams};
 ghost use Rattle.device.specs.Machines.{machine};
@@ -29,7 +29,7 @@ fn is_running(regs: &Registers, index: usize) -> bool
     (control & 3 == 2) & !held
 }
 
-// The turn of stream `index`, where it takes one: its record taken out and put back, its parts of the lent spaces lent.
+// The turn of stream `index`, which takes one: its record taken out and put back, its parts of the lent spaces lent.
 fn turn_at(
     mut hda: Hda,
     host: Host,
@@ -39,16 +39,9 @@ fn turn_at(
     nanos: u64,
     index: usize,
 ) -> Served
-    requires { ⌜ (index < streams) × ServeNeeds (machine hda host (now lists) (now queues) (now memory)) ⌝ }
+    requires { ⌜ (index < streams) × (runs (hda .regs) index ≡ true) × ServeNeeds (machine hda host (now lists) (now queues) (now memory)) ⌝ }
     ensures { λ r. ⌜ turnsAnswer r (now (lists .exit)) (now (queues .exit)) (now (memory .exit)) ≡ turnAt nanos index (turnsOf false (machine hda host (now (lists .entry)) (now (queues .entry)) (now (memory .entry)))) ⌝ }
 {
-    if !is_running(&hda.regs, index) {
-        return Served {
-            refused: false,
-            hda: hda,
-            host: host,
-        };
-    }
     let list = Stream::LIST * index;
     let list_end = list + Stream::LIST;
     let part = Stream::QUEUE * index;
@@ -96,6 +89,11 @@ pub fn serve(
     let mut h = host;
     let mut index = 0;
     while index < count {
+        // Here and not in the turn: a device that is handed on costs a copy.
+        if !is_running(&d.regs, index) {
+            index += 1;
+            continue;
+        }
         let r = turn_at(d, h, lists, queues, memory, nanos, index);
         if r.refused {
             return r;

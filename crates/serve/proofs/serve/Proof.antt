@@ -4,13 +4,14 @@ use Prim.Native.Nat.{ℕ, _+_, _-_}
 use mathlib.Core.Path.{_≡_, refl, sym, _∙_}
 use mathlib.Core.Bool.{false}
 use native.Mathlib.Omega.{arith}
+use borrow.Author.Tests.{not-true, not-false}
 use lib.ListN.{length}
 use Rattle.word.specs.Each.{eachOf}
-use Rattle.word.proofs.Each.{each-end}
+use Rattle.word.proofs.Each.{each-step, each-end}
 use Rattle.stream.specs.Box.{streams}
 use Rattle.device.specs.Machines.{machine}
 use Rattle.serve.specs.Serve.{turnsOf, turnAt, goesOn, serveOf, ServeNeeds}
-use Rattle.serve.proofs.Turns.{needs-again, serve-step, serve-stop}
+use Rattle.serve.proofs.Turns.{turn-none, needs-again, serve-step, serve-stop}
 use Rattle.serve.proofs.serve.Statement.{statement}
 use Rattle.serve.proofs.serve.Tie as tie
 
@@ -27,40 +28,34 @@ abbrev μ-loop : tie.MeasureT-loop
 loop-holds : tie.Need-loop-holds Inv-loop μ-loop
 loop-holds c = (refl, refl, refl, c .before .before .before .pre, streams, refl, refl)
 
+-- a stream that takes no turn
+loop-again : tie.Need-loop-again Inv-loop μ-loop
+loop-again c =
+    let l = c .before .before .before .before .before .loop in
+    let x = machine (l .d) (l .h) (l .lists) (l .queues) (l .memory) in
+    let none = turn-none _ (l .index) (l .d) (l .h) (l .lists) (l .queues) (l .memory) (sym (c .before .is-running .ensures) ∙ not-true _ (c .if1 .taken)) in
+    let k = each-step goesOn _ streams (l .index) (l .inv .4) (turnsOf false x) (turnsOf false x) (l .inv .5) (c .before .before .before .before .loop-test .taken) none refl in
+    (l .inv .0, l .inv .1, l .inv .2, l .inv .3, k .0, k .1, sym (k .2) ∙ l .inv .6)
+
 turn-at-requires : tie.Need-turn-at-requires Inv-loop μ-loop
-turn-at-requires c κs = (omega arith, c .before .before .before .before .loop .inv .3)
-
-same-length : tie.Need-same-length Inv-loop μ-loop
-same-length c = omega arith
-
-same-length-2 : tie.Need-same-length-2 Inv-loop μ-loop
-same-length-2 c = omega arith
-
-same-length-3 : tie.Need-same-length-3 Inv-loop μ-loop
-same-length-3 c = omega arith
+turn-at-requires c κs = (omega arith, sym (c .before .before .before .before .is-running .ensures) ∙ not-false _ (c .before .before .before .if1 .left), c .before .before .before .before .before .before .before .before .loop .inv .3)
 
 returns : tie.Need-returns Inv-loop μ-loop
 unfolding serveOf
 returns c =
     let p = c .before .before .before .before .before .before .before in
-    let l = p .before .before .before .before .before .loop in
+    let l = p .before .before .before .before .before .before .before .before .before .loop in
     let x = machine (l .d) (l .h) (l .lists) (l .queues) (l .memory) in
-    serve-stop _ streams (l .index) x (p .turn-at .result) _ _ _ (p .before .before .before .before .loop-test .taken) (p .turn-at .ensures) (l .inv .4) (l .inv .5) (c .if1 .taken) ∙ l .inv .6
+    serve-stop _ streams (l .index) x (p .turn-at .result) _ _ _ (p .before .before .before .before .before .before .before .before .loop-test .taken) (p .turn-at .ensures) (l .inv .4) (l .inv .5) (c .if2 .taken) ∙ l .inv .6
 
-add-index : tie.Need-add-index Inv-loop μ-loop
-add-index c = omega arith
-
-loop-less : tie.Need-loop-less Inv-loop μ-loop
-loop-less c = omega arith
-
-loop-again : tie.Need-loop-again Inv-loop μ-loop
-loop-again c =
+loop-again-2 : tie.Need-loop-again-2 Inv-loop μ-loop
+loop-again-2 c =
     let p = c .before .before .before .before .before .before .before .before .before in
-    let l = p .before .before .before .before .before .loop in
+    let l = p .before .before .before .before .before .before .before .before .before .loop in
     let kept = p .turn-at .kept .1 .1 in
     let x = machine (l .d) (l .h) (l .lists) (l .queues) (l .memory) in
-    let k = serve-step _ streams (l .index) x (p .turn-at .result) _ _ _ (p .before .before .before .before .loop-test .taken) (p .turn-at .ensures) (l .inv .4) (l .inv .5)
-    (c .before .before .if1 .left) in (
+    let k = serve-step _ streams (l .index) x (p .turn-at .result) _ _ _ (p .before .before .before .before .before .before .before .before .loop-test .taken) (p .turn-at .ensures) (l .inv .4) (l .inv .5)
+    (c .before .before .if2 .left) in (
       kept .0 ∙ l .inv .0,
       kept .1 .0 ∙ l .inv .1,
       kept .1 .1 .0 ∙ l .inv .2,
@@ -69,15 +64,6 @@ loop-again c =
       k .1,
       sym (k .2) ∙ l .inv .6,
     )
-
-same-length-4 : tie.Need-same-length-4 Inv-loop μ-loop
-same-length-4 c = omega arith
-
-same-length-5 : tie.Need-same-length-5 Inv-loop μ-loop
-same-length-5 c = omega arith
-
-same-length-6 : tie.Need-same-length-6 Inv-loop μ-loop
-same-length-6 c = omega arith
 
 returns-2 : tie.Need-returns-2 Inv-loop μ-loop
 unfolding serveOf
@@ -92,15 +78,13 @@ serve-spec =
     Inv-loop
     μ-loop
     loop-holds
-    turn-at-requires
-    same-length
-    same-length-2
-    same-length-3
-    returns
-    add-index
-    loop-less
+    (λ c κs. omega arith) (λ c. omega arith) (λ c. omega arith)
     loop-again
-    same-length-4
-    same-length-5
-    same-length-6
+    turn-at-requires
+    -- the lent spaces' lengths
+    (λ c. omega arith) (λ c. omega arith) (λ c. omega arith)
+    returns
+    (λ c. omega arith) (λ c. omega arith)
+    loop-again-2
+    (λ c. omega arith) (λ c. omega arith) (λ c. omega arith)
     returns-2)

@@ -1,24 +1,13 @@
 -- `turn_at` meets its contract. Assumes nothing.
 use Prim.Native.Nat.{_+_, _-_, _*_}
-use mathlib.Core.Path.{sym, _∙_}
 use native.Mathlib.Omega.{arith}
 use borrow.Author.Needs.{needs}
-use borrow.Author.Tests.{not-true, not-false}
 use Rattle.stream.specs.Streams.{freshOf}
 use Rattle.queue.specs.Queues.{capacity}
 use Rattle.device.specs.Devices.{listSize}
-use Rattle.serve.proofs.Turns.{turn-needs, turn-none, turn-taken}
+use Rattle.serve.proofs.Turns.{turn-needs, turn-taken}
 use Rattle.serve.proofs.turn_at.Statement.{statement}
 use Rattle.serve.proofs.turn_at.Tie as tie
-
-is-running-requires : tie.Need-is-running-requires
-is-running-requires c κs = search needs
-
-returns : tie.Need-returns
-returns c =
-    let a = c .before .before .before .before .before .before .before .args in
-    turn-none (a .nanos) (a .index) (a .t1) (a .host) (a .lists .now) (a .queues .now) (a .memory .now)
-    (sym (c .before .is-running .ensures) ∙ not-true _ (c .if1 .taken))
 
 mul-list : tie.Need-mul-list
 mul-list c = search needs
@@ -62,15 +51,15 @@ part-turn-end-2 c = search needs
 turn-requires : tie.Need-turn-requires
 unfolding freshOf
 turn-requires c κs =
-    let s = c .before .before .before .before .before .before .before .before .before .before .before .before .before in
+    let s = c .before .before .before .before .before .before .before .before .before in
     let i = s .args .index in
-    turn-needs _ i (listSize * i + listSize - listSize * i) (capacity * i + capacity - capacity * i) (s .pre .1) (s .pre .0) (omega arith) (omega arith)
+    turn-needs _ i (listSize * i + listSize - listSize * i) (capacity * i + capacity - capacity * i) (s .pre .2) (s .pre .0) (omega arith) (omega arith)
 
 mul-next : tie.Need-mul-next
-mul-next c = omega (arith, c .before .before .before .before .before .before .before .before .before .before .before .before .before .before .before .before .before .before .before .before .before .pre .0)
+mul-next c = omega (arith, c .before .before .before .before .before .before .before .before .before .before .before .before .before .before .before .before .before .pre .0)
 
 element-set-from-next : tie.Need-element-set-from-next
-element-set-from-next c = search (needs, c .before .before .before .before .before .before .before .before .before .before .before .before .before .before .before .before .before .before .before .before .before .pre .0)
+element-set-from-next c = search (needs, c .before .before .before .before .before .before .before .before .before .before .before .before .before .before .before .before .before .pre .0)
 
 same-length : tie.Need-same-length
 same-length c = search needs
@@ -81,23 +70,21 @@ same-length-2 c = search needs
 same-length-3 : tie.Need-same-length-3
 same-length-3 c = search needs
 
-returns-2 : tie.Need-returns-2
+returns : tie.Need-returns
 unfolding freshOf
-returns-2 c =
+returns c =
     let p = c .before .before .before .before .before .before .before .before in
     let o = p .turn .last .1 .1 .1 .1 .1 .1 .1 .1 in
-    let a = c .before .before .before .before .before .before .before .before .before .before .before .before .before .before .before .before .before .before .before .before .before .before .args in
+    let start = c .before .before .before .before .before .before .before .before .before .before .before .before .before .before .before .before .before .before in
+    let a = start .args in
     let i = a .index in
     turn-taken (a .nanos) i (a .t1) (a .host) (a .lists .now) (a .queues .now) (a .memory .now) (listSize * i + listSize - listSize * i)
-    (capacity * i + capacity - capacity * i) (p .turn .result) (p .turn .last .0) (o .0) (o .1 .0) (o .1 .1 .0)
-    (sym (p .before .before .before .before .before .before .before .before .is-running .ensures) ∙ not-false _ (p .before .before .before .before .before .before .before .if1 .left)) (omega arith) (omega arith) (p .turn .ensures)
+    (capacity * i + capacity - capacity * i) (p .turn .result) (p .turn .last .0) (o .0) (o .1 .0) (o .1 .1 .0) (start .pre .1) (omega arith) (omega arith) (p .turn .ensures)
 
 pub turn-at-spec : {M : Type 1} → statement M
 turn-at-spec =
     tie.close
     (tie.spec
-    is-running-requires
-    returns
     mul-list
     add-list-end
     mul-part
@@ -117,4 +104,4 @@ turn-at-spec =
     same-length
     same-length-2
     same-length-3
-    returns-2)
+    returns)
