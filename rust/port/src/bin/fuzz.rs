@@ -42,15 +42,22 @@ fn play(seed: u64, seen: &mut BTreeMap<String, u64>) -> Result<(), String> {
         }
         let call = call(&mut random);
         refill(&mut random, &mut lent, call);
-        // The call gets a copy, whose allocations end where the bytes end: a memory checker then sees an access beyond.
-        let before = lent.clone();
-        let before = std::mem::replace(&mut lent, before);
+        let copy = exact(&lent);
+        let before = std::mem::replace(&mut lent, copy);
         let reply = call.make(&mut lent);
         let kind = if call == Call::Restore { "Restore".into() } else { format!("{:?}", call.handed()) };
         *seen.entry(format!("{kind} gave {}", reply.number())).or_default() += 1;
         check(call, reply, &before, &lent).map_err(|error| format!("{call:?} returned {:#x}: {error}", reply.0))?;
     }
     Ok(())
+}
+
+/// A copy, each part an allocation of its own that ends where the bytes end: a memory checker then sees an access beyond (rust/fuzz-checked).
+fn exact(lent: &Lent) -> Lent {
+    let copy = lent.clone();
+    let parts = [&copy.device, &copy.host, &copy.lists, &copy.queues, &copy.memory, &copy.buffer];
+    assert!(parts.iter().all(|part| part.capacity() == part.len()), "an allocation is longer than its bytes");
+    copy
 }
 
 fn check(call: Call, reply: Reply, before: &Lent, after: &Lent) -> Result<(), String> {
