@@ -1,4 +1,5 @@
-/* Calls every function of include/hda.h from C and checks a few answers: frames played and captured, a message sent, an opening refused, a state saved and restored. */
+/* Calls every function of include/hda.h from C and checks a few answers: frames played and captured, a message sent, an opening refused, a state saved and restored, slices of length 0
+ * at NULL. */
 #include "hda.h"
 #include <stdio.h>
 #include <string.h>
@@ -8,6 +9,10 @@ static uint8_t state[HDA_STATE_BYTES_MAX];
 
 #define RECORDS device, sizeof device, host, sizeof host, lists, sizeof lists, queues, sizeof queues
 #define HOST host, sizeof host, queues, sizeof queues
+#define LISTS lists, sizeof lists
+#define QUEUES queues, sizeof queues
+#define MEMORY memory, sizeof memory
+#define NOTHING NULL, 0
 
 static int checks, failures;
 
@@ -185,6 +190,84 @@ static void restored(void)
     CHECK(hda_value(hda_feed(HOST, frames, sizeof frames)), 2);
 }
 
+/* Slices of length 0 at NULL where a call has use for none. */
+static void empty(void)
+{
+    uint8_t frames[16];
+    CHECK(hda_number(hda_set_paused(RECORDS, 0)), HDA_DONE);
+    CHECK(hda_number(hda_set_playback_fails(HOST, 0)), HDA_DONE);
+    CHECK(hda_number(hda_set_downstream(HOST, 0)), HDA_DONE);
+    write_register(0xa0, 6, 1);
+    CHECK(hda_number(hda_advance(RECORDS, MEMORY, 1000000)), HDA_DONE);
+    CHECK(hda_value(hda_feed(HOST, NOTHING)), 0);
+    CHECK(hda_value(hda_pull(HOST, NOTHING)), 0);
+    CHECK(hda_value(hda_pull(HOST, frames, sizeof frames)), 4);
+    CHECK(hda_number(hda_read(RECORDS, 0, NOTHING)), HDA_DONE);
+    CHECK(hda_number(hda_bar_read(RECORDS, 0, 0, NOTHING)), HDA_DONE);
+    CHECK(hda_number(hda_bar_read(RECORDS, 1, 0, NOTHING)), HDA_DONE);
+    CHECK(hda_number(hda_write(RECORDS, MEMORY, 0x08, NOTHING)), HDA_DONE);
+    CHECK(hda_number(hda_write(RECORDS, NOTHING, 0x08, NOTHING)), HDA_DONE);
+    CHECK(hda_number(hda_bar_write(RECORDS, NOTHING, 0, 0x08, NOTHING)), HDA_DONE);
+    CHECK(hda_number(hda_config_write(RECORDS, NOTHING, 1, 0, NOTHING)), HDA_DONE);
+    CHECK(hda_number(hda_pin_presence_changed(RECORDS, NOTHING, 3)), HDA_DONE);
+    CHECK(hda_number(hda_save(RECORDS, NOTHING)), HDA_LENT_SPACE);
+    CHECK(hda_number(hda_restore(RECORDS, NOTHING)), HDA_SHORT_STATE);
+    /* A guest with no memory: both streams run, find no descriptor and stop with a stream error. */
+    CHECK(read_register(0x80, 1) & read_register(0xa0, 1) & 2, 2);
+    CHECK(hda_number(hda_advance(RECORDS, NOTHING, 1000000)), HDA_DONE);
+    CHECK(read_register(0x83, 1) & 0x10, 0x10);
+    CHECK(read_register(0xa3, 1) & 0x10, 0x10);
+}
+
+/* Every call without spaces, then every call without records. */
+static void nothing(void)
+{
+    const uint64_t short_spaces[] = {
+        hda_new(device, sizeof device, NOTHING, NOTHING, 1),
+        hda_host_new(host, sizeof host, NOTHING),
+        hda_advance(NOTHING, NOTHING, NOTHING, NOTHING, NOTHING, 1),
+        hda_read(NOTHING, NOTHING, NOTHING, NOTHING, 0, NOTHING),
+        hda_write(NOTHING, NOTHING, NOTHING, NOTHING, NOTHING, 0, NOTHING),
+        hda_bar_read(NOTHING, NOTHING, NOTHING, NOTHING, 0, 0, NOTHING),
+        hda_bar_write(NOTHING, NOTHING, NOTHING, NOTHING, NOTHING, 0, 0, NOTHING),
+        hda_config_read(NOTHING, NOTHING, NOTHING, NOTHING, 0),
+        hda_config_write(NOTHING, NOTHING, NOTHING, NOTHING, NOTHING, 0, 0, NOTHING),
+        hda_pin_presence_changed(NOTHING, NOTHING, NOTHING, NOTHING, NOTHING, 3),
+        hda_set_paused(NOTHING, NOTHING, NOTHING, NOTHING, 1),
+        hda_save(NOTHING, NOTHING, NOTHING, NOTHING, NOTHING),
+        hda_restore(NOTHING, NOTHING, NOTHING, NOTHING, NOTHING),
+        hda_feed(NOTHING, NOTHING, NOTHING),
+        hda_pull(NOTHING, NOTHING, NOTHING),
+        hda_set_playback_fails(NOTHING, NOTHING, 1),
+        hda_set_capture_fails(NOTHING, NOTHING, 1),
+        hda_set_downstream(NOTHING, NOTHING, 0),
+    };
+    const uint64_t no_records[] = {
+        hda_new(NOTHING, LISTS, QUEUES, 1),
+        hda_host_new(NOTHING, QUEUES),
+        hda_advance(NOTHING, NOTHING, LISTS, QUEUES, MEMORY, 1),
+        hda_read(NOTHING, NOTHING, LISTS, QUEUES, 0, NOTHING),
+        hda_write(NOTHING, NOTHING, LISTS, QUEUES, MEMORY, 0, NOTHING),
+        hda_bar_read(NOTHING, NOTHING, LISTS, QUEUES, 0, 0, NOTHING),
+        hda_bar_write(NOTHING, NOTHING, LISTS, QUEUES, MEMORY, 0, 0, NOTHING),
+        hda_config_read(NOTHING, NOTHING, LISTS, QUEUES, 0),
+        hda_config_write(NOTHING, NOTHING, LISTS, QUEUES, MEMORY, 0, 0, NOTHING),
+        hda_pin_presence_changed(NOTHING, NOTHING, LISTS, QUEUES, MEMORY, 3),
+        hda_set_paused(NOTHING, NOTHING, LISTS, QUEUES, 1),
+        hda_save(NOTHING, NOTHING, LISTS, QUEUES, NOTHING),
+        hda_restore(NOTHING, NOTHING, LISTS, QUEUES, NOTHING),
+        hda_feed(NOTHING, QUEUES, NOTHING),
+        hda_pull(NOTHING, QUEUES, NOTHING),
+        hda_set_playback_fails(NOTHING, QUEUES, 1),
+        hda_set_capture_fails(NOTHING, QUEUES, 1),
+        hda_set_downstream(NOTHING, QUEUES, 0),
+    };
+    for (size_t i = 0; i < sizeof short_spaces / sizeof *short_spaces; i++)
+        CHECK(short_spaces[i], HDA_LENT_SPACE);
+    for (size_t i = 0; i < sizeof no_records / sizeof *no_records; i++)
+        CHECK(no_records[i], HDA_STATE);
+}
+
 int main(void)
 {
     made();
@@ -192,6 +275,8 @@ int main(void)
     refused();
     saved();
     restored();
+    empty();
+    nothing();
     printf("%d checks, %d failed\n", checks, failures);
     return failures != 0;
 }
