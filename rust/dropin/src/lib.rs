@@ -23,7 +23,8 @@ impl Hda {
     ///
     /// # Safety
     ///
-    /// While a method of the device runs, nothing else in this process may read or write the guest memory: the device has it as a `&mut [u8]`.
+    /// The device has guest memory as a `&mut [u8]` while [`Hda::advance`], [`Hda::pin_presence_changed`] or a trait's `write`, `config_write` or `bar_write` runs. Meanwhile nothing
+    /// else in this process may read or write that memory, and nothing outside of it may write there: no virtual processor, no other process that has it mapped.
     pub unsafe fn new(
         id: impl Into<String>,
         memory: GuestMemory,
@@ -38,6 +39,11 @@ impl Hda {
             line.set_level(false);
         }
         Ok(Self { id: id.into(), machine: Machine::new(microphone), memory, msi, intx })
+    }
+
+    /// What the records hold: which streams are open, what is queued.
+    pub fn machine(&self) -> &Machine {
+        &self.machine
     }
 
     /// Makes a call that is lent guest memory.

@@ -366,5 +366,6 @@ fn refusals_become_errors() {
     state[262 + 0xa0] = 2;
     assert!(matches!(device.restore_state(&state), Err(DeviceError::Other(_))));
     device.set_playback_fails(false).unwrap();
-    assert!(device.restore_state(&state).is_ok() && device.restore_state(&state[1..]).is_err());
+    assert!(!device.machine().open(1));
+    assert!(device.restore_state(&state).is_ok() && device.machine().open(1) && device.restore_state(&state[1..]).is_err());
 }
