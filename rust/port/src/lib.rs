@@ -2,13 +2,11 @@
 //!
 //! [`calls`] has each C function over slices, [`Machine`] the same over records, lists and queues that it owns, with the returned number taken apart. No use of them
 //! can break memory safety: the C functions take any bytes of any length, touch nothing else and always return, and slices that a call may write cannot overlap others.
-pub mod any;
 mod c;
 pub mod calls;
 pub mod layout;
 mod machine;
 mod reply;
-pub mod states;
 
 pub use machine::{Bytes, Machine};
 pub use reply::{Answer, Message, Reply, number};

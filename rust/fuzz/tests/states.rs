@@ -1,8 +1,9 @@
 //! Restore on states that are cut, damaged or whole. A refusal gives document 01's number, the first in its reading order, and changes no lent byte; an accepted state
 //! leaves the records and lists that document 01 says, and every other byte as it was.
-use port::any::{Call, Lent};
+use fuzz::any::{Call, Lent};
+use fuzz::states;
 use port::layout::{LIST, POSITIONS, STATE, device, get, host, put, stream};
-use port::{Machine, Message, Reply, number, states};
+use port::{Machine, Message, Reply, number};
 
 const BILLION: u64 = 1_000_000_000;
 /// Each stream's counts and positions in the state.

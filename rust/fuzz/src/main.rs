@@ -2,9 +2,10 @@
 //!
 //! After each call: the number is one that document 01 gives here, 9 and 10 exactly where its conditions say so; a refusal has changed no byte; a machine that a call
 //! accepted is still valid; a restored machine is the one that document 01 says. Round R of a seed is round 0 of seed + R. That a call returns is seen by the run's end.
-use port::any::{Call, Handed, Lent, is_valid_downstream};
+use fuzz::any::{Call, Handed, Lent, is_valid_downstream};
+use fuzz::states;
 use port::layout::{DEVICE, HOST, LIST, LISTS, MAX_STATE, POSITIONS, QUEUES, STATE, STREAMS, device, get, host, put, stream};
-use port::{Machine, Reply, number, states};
+use port::{Machine, Reply, number};
 use random::Random;
 use std::collections::BTreeMap;
 use std::process::ExitCode;

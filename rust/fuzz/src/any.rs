@@ -1,6 +1,6 @@
 //! Any call on any bytes, for tests of what calls refuse: records of any length and content, spaces of any length.
-use crate::layout::{DEVICE, HOST, LIST, LISTS, MAX_DOWNSTREAM, POSITIONS, QUEUE, QUEUES, STREAMS, device, get, host, stream};
-use crate::{Machine, Reply, calls, number};
+use port::layout::{DEVICE, HOST, LIST, LISTS, MAX_DOWNSTREAM, POSITIONS, QUEUE, QUEUES, STREAMS, device, get, host, stream};
+use port::{Machine, Reply, calls, number};
 
 /// All that calls can be lent. A call uses what it is handed; `buffer` is what it reads into, writes from, saves into, restores, feeds or pulls.
 #[derive(Clone, PartialEq, Eq)]

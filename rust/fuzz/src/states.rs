@@ -1,7 +1,7 @@
 //! Which saved states a device takes and what an accepted one leaves, for tests: written from document 01's text ("Numbers returned"), in its reading order.
 use crate::any::Lent;
-use crate::layout::{LIST, POSITIONS, STREAMS, device, get, host, put, stream};
-use crate::number;
+use port::layout::{LIST, POSITIONS, STREAMS, device, get, host, put, stream};
+use port::number;
 
 /// The words of document 01's list.
 const FORMATS: [u64; 10] = [0x0011, 0x0811, 0x0911, 0x1211, 0x1911, 0x1b11, 0x4011, 0x4911, 0x5211, 0x5b11];

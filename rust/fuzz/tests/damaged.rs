@@ -1,6 +1,6 @@
 //! Records that break a condition, bytes that are no records, and spaces that are too short: every field and length in turn, for every call. Document 01's number
 //! comes back (10 before 9), with the level that the record has, and no lent byte changes.
-use port::any::{Call, Handed, Lent};
+use fuzz::any::{Call, Handed, Lent};
 use port::layout::{DEVICE, HOST, LIST, LISTS, MAX_DOWNSTREAM, MAX_STATE, POSITIONS, QUEUE, QUEUES, device, get, host, put, stream};
 use port::{Machine, number};
 
