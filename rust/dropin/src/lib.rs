@@ -2,7 +2,8 @@
 //!
 //! Two things differ for the hypervisor. The device calls no host backend: the host's sound driver feeds, pulls and sets through this type ([`Hda::feed`],
 //! [`Hda::pull`] and the three settings). And guest memory is one region from address 0 on, lent whole to each call.
-use port::{Answer, Machine, number};
+use port::{Answer, number};
+pub use port::{Machine, Stream};
 use reference::audio::AudioClock;
 use reference::{BarInfo, BarKind, BusDevice, DeviceError, GuestMemory, IrqLine, MsiMessage, MsiSink, PciDevice, Snapshot};
 use std::sync::Arc;

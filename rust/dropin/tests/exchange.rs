@@ -1,5 +1,6 @@
 //! One device exchanged for the other: the same driver on the Rust's `Hda` and on the drop-in, through the hypervisor's traits. All that the guest, the host and the
 //! wires see must be the same.
+use dropin::Stream;
 use reference::audio::{AudioClock, AudioFormat, CaptureSource, HostAudio, PlaybackSink};
 use reference::{BusDevice, DeviceError, GuestMemory, IrqLine, MsiMessage, MsiSink, PciDevice, Snapshot};
 use std::collections::VecDeque;
@@ -366,6 +367,6 @@ fn refusals_become_errors() {
     state[262 + 0xa0] = 2;
     assert!(matches!(device.restore_state(&state), Err(DeviceError::Other(_))));
     device.set_playback_fails(false).unwrap();
-    assert!(!device.machine().open(1));
-    assert!(device.restore_state(&state).is_ok() && device.machine().open(1) && device.restore_state(&state[1..]).is_err());
+    assert!(!device.machine().open(Stream::Playback));
+    assert!(device.restore_state(&state).is_ok() && device.machine().open(Stream::Playback) && device.restore_state(&state[1..]).is_err());
 }

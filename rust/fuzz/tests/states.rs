@@ -3,7 +3,7 @@
 use fuzz::any::{Call, Lent};
 use fuzz::states;
 use port::layout::{LIST, POSITIONS, STATE, device, get, host, put, stream};
-use port::{Machine, Message, Reply, number};
+use port::{Machine, Message, Reply, Stream, number};
 
 const BILLION: u64 = 1_000_000_000;
 /// Each stream's counts and positions in the state.
@@ -56,9 +56,11 @@ fn lent(microphone: bool, level: bool, state: &[u8]) -> Lent {
     let mut bytes = machine.bytes().clone();
     bytes.device[device::REGISTERS + 0xa3] = 4;
     bytes.host[host::DOWNSTREAM] = 8;
-    (0..2).filter(|index| machine.open(*index)).for_each(|index| put::<4>(&mut bytes.host, host::length(index), 12));
+    for open in Stream::EACH.into_iter().filter(|each| machine.open(*each)) {
+        put::<4>(&mut bytes.host, host::length(open.index()), 12);
+    }
     let mut machine = Machine::from_bytes(bytes);
-    assert_eq!((machine.write(&mut memory, 0x5000, &[]).level, machine.open(0)), (level, microphone));
+    assert_eq!((machine.write(&mut memory, 0x5000, &[]).level, machine.open(Stream::Capture)), (level, microphone));
     let mut lent = Lent::of(&machine, 64, 0);
     lent.lists.fill(0xaa);
     lent.queues.fill(0xbb);

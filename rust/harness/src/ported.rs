@@ -1,7 +1,7 @@
 //! The side over the port's C functions.
 use crate::side::{Direction, Interrupts, Message, Side, View, number};
 use port::layout::{host, put};
-use port::{Answer, Bytes, Machine};
+use port::{Answer, Bytes, Machine, Stream};
 
 pub struct Port {
     machine: Machine,
@@ -120,8 +120,8 @@ impl Side for Port {
         View {
             state,
             asserted: machine.asserted(),
-            open: [0, 1].map(|index| machine.open(index)),
-            queues: [0, 1].map(|index| machine.queue(index).to_vec()),
+            open: Stream::EACH.map(|stream| machine.open(stream)),
+            queues: Stream::EACH.map(|stream| machine.queue(stream).to_vec()),
             opening_fails: [machine.capture_fails(), machine.playback_fails()],
             downstream: machine.downstream(),
         }

@@ -1,5 +1,5 @@
 //! What stands between guest, device and host: the machine, guest memory, and messages on their way to the guest.
-use port::{Answer, Machine, Message, number};
+use port::{Answer, Machine, Message, Stream, number};
 
 /// What went wrong, in words.
 pub type Outcome<T> = Result<T, String>;
@@ -88,7 +88,7 @@ impl Bus {
 
     /// The bytes that the device has read and the host has not pulled.
     pub fn queued(&self) -> &[u8] {
-        self.machine.queue(1)
+        self.machine.queue(Stream::Playback)
     }
 
     pub fn store(&mut self, address: usize, bytes: &[u8]) {

@@ -8,5 +8,5 @@ pub mod layout;
 mod machine;
 mod reply;
 
-pub use machine::{Bytes, Machine};
+pub use machine::{Bytes, Machine, Stream};
 pub use reply::{Answer, Message, Reply, number};

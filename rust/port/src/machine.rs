@@ -1,5 +1,5 @@
 //! A device with its host end, and all that they are lent besides guest memory.
-use crate::layout::{DEVICE, HOST, LIST, LISTS, MAX_STATE, QUEUE, QUEUES, device, get, host, stream};
+use crate::layout::{DEVICE, HOST, LIST, LISTS, MAX_STATE, QUEUE, QUEUES, STREAMS, device, get, host, stream};
 use crate::{Answer, Reply, calls, number};
 
 /// The records and lent spaces as bytes (docs/LAYOUT.md).
@@ -152,7 +152,23 @@ impl Machine {
     }
 }
 
-/// What the records hold. Streams and queues are named by their number: 0 captures, 1 plays.
+/// A device's stream.
+#[derive(Clone, Copy, Debug, PartialEq, Eq)]
+pub enum Stream {
+    Capture,
+    Playback,
+}
+
+impl Stream {
+    pub const EACH: [Self; STREAMS] = [Self::Capture, Self::Playback];
+
+    /// Its number in the records.
+    pub fn index(self) -> usize {
+        self as usize
+    }
+}
+
+/// What the records hold.
 impl Machine {
     pub fn microphone(&self) -> bool {
         self.bytes.device[device::MICROPHONE] != 0
@@ -164,18 +180,20 @@ impl Machine {
     }
 
     /// Positions that wait for the host, as bytes.
-    pub fn pending(&self, index: usize) -> &[u8] {
+    pub fn pending(&self, which: Stream) -> &[u8] {
+        let index = which.index();
         let count = get::<4>(&self.bytes.device, device::stream(index) + stream::PENDING) as usize;
         let list = &self.bytes.lists[LIST * index..LIST * (index + 1)];
         &list[..(8 * count).min(LIST)]
     }
 
-    pub fn open(&self, index: usize) -> bool {
-        self.bytes.host[host::open(index)] != 0
+    pub fn open(&self, which: Stream) -> bool {
+        self.bytes.host[host::open(which.index())] != 0
     }
 
     /// The bytes queued.
-    pub fn queue(&self, index: usize) -> &[u8] {
+    pub fn queue(&self, which: Stream) -> &[u8] {
+        let index = which.index();
         let length = get::<4>(&self.bytes.host, host::length(index)) as usize;
         let queue = &self.bytes.queues[QUEUE * index..QUEUE * (index + 1)];
         &queue[..length.min(QUEUE)]
@@ -218,12 +236,12 @@ mod tests {
         }
         let (_, running) = machine.saved();
         assert_eq!(machine.restore(&fresh).number, number::DONE);
-        assert!(machine.saved().1 == fresh && !machine.open(1));
+        assert!(machine.saved().1 == fresh && !machine.open(Stream::Playback));
         assert_eq!(machine.restore(&running).number, number::DONE);
-        assert!(machine.saved().1 == running && machine.open(1) && !machine.open(0));
+        assert!(machine.saved().1 == running && machine.open(Stream::Playback) && !machine.open(Stream::Capture));
         assert_eq!(Machine::new(false).restore(&fresh).number, number::MICROPHONE);
         machine.set_playback_fails(true);
-        assert_eq!((machine.restore(&running).number, machine.open(1)), (number::HOST_CLOSED, true));
+        assert_eq!((machine.restore(&running).number, machine.open(Stream::Playback)), (number::HOST_CLOSED, true));
     }
 
     #[test]
@@ -233,9 +251,9 @@ mod tests {
         assert_eq!(machine.feed(&[1; 8]).value, 0);
         machine.write(&mut memory, 0x92, &[0x11, 0]);
         machine.write(&mut memory, 0x80, &[2]);
-        assert!(machine.open(0) && !machine.open(1));
+        assert!(machine.open(Stream::Capture) && !machine.open(Stream::Playback));
         assert_eq!(machine.feed(&[1; 8]).value, 2);
-        assert_eq!(machine.queue(0), [1; 8]);
+        assert_eq!(machine.queue(Stream::Capture), [1; 8]);
         assert_eq!(machine.feed(&[1; 3]).number, number::ODD_FRAMES);
         assert_eq!(machine.pull(&mut [0; 8]).value, 0);
         assert_eq!([14_336, 14_340].map(|bytes| machine.set_downstream(bytes).number), [number::DONE, number::LATENCY]);

@@ -86,7 +86,7 @@ impl Side for Port {
         &mut self.memory
     }
     fn queues(&self) -> [Vec<u8>; 2] {
-        [0, 1].map(|index| self.machine.queue(index).to_vec())
+        port::Stream::EACH.map(|stream| self.machine.queue(stream).to_vec())
     }
 }
 
