@@ -2,8 +2,9 @@
  *
  * The caller keeps everything: the device and its host end are records of bytes, and lists, queues and guest memory are lent to each call. docs/LAYOUT.md has the
  * bytes of the records. Any bytes of any length may be handed in, in any order of calls: a function reads and writes its slices, at most to their lengths, and nothing
- * else, and it always returns. Two rules are the caller's: each pointer has as many bytes as its length says, and a slice that a call writes, which is one whose pointer
- * is not const, overlaps no other slice of the call. A slice of length 0 may have any pointer, NULL too. Numbers in records are little-endian.
+ * else, and it always returns. Three rules are the caller's: each pointer has as many bytes as its length says; a slice that a call writes, which is one whose pointer is
+ * not const, overlaps no other slice of the call; nothing else writes a slice while the call runs. A slice of length 0 may have any pointer, NULL too. Numbers in records
+ * are little-endian.
  *
  * Stream 0 captures, stream 1 plays.
  */

@@ -1,5 +1,5 @@
-/* Calls every function of include/hda.h from C and checks a few answers: frames played and captured, a message sent, an opening refused, a state saved and restored, slices of length 0
- * at NULL. */
+/* Calls every function of include/hda.h from C and checks a few answers: frames played and captured, a message sent, an opening refused, a state saved and restored, slices
+ * of length 0 at NULL. */
 #include "hda.h"
 #include <stdio.h>
 #include <string.h>

@@ -24,8 +24,9 @@ impl Hda {
     ///
     /// # Safety
     ///
-    /// The device has guest memory as a `&mut [u8]` while [`Hda::advance`], [`Hda::pin_presence_changed`] or a trait's `write`, `config_write` or `bar_write` runs. Meanwhile nothing
-    /// else in this process may read or write that memory, and nothing outside of it may write there: no virtual processor, no other process that has it mapped.
+    /// The device has guest memory as a `&mut [u8]` while [`Hda::advance`], [`Hda::pin_presence_changed`] or a trait's `write`, `config_write` or `bar_write` runs.
+    /// Meanwhile nothing else in this process may read or write that memory, and nothing outside of it may write there: no virtual processor, no other process
+    /// that has it mapped.
     pub unsafe fn new(
         id: impl Into<String>,
         memory: GuestMemory,
