@@ -129,6 +129,22 @@ pub enum Handed {
     Host,
 }
 
+/// What a call may change, of the buffer how many bytes from its start.
+#[derive(Default)]
+struct Changes {
+    device: bool,
+    host: bool,
+    lists: bool,
+    queues: bool,
+    memory: bool,
+    buffer: usize,
+}
+
+/// Whether two slices have one length, and the same bytes from a place on.
+fn is_same_from(before: &[u8], after: &[u8], place: usize) -> bool {
+    before.len() == after.len() && before.get(place..) == after.get(place..)
+}
+
 impl Call {
     /// Every call once.
     pub const EACH: [Self; 18] = [
@@ -159,6 +175,32 @@ impl Call {
             Self::Feed | Self::Pull | Self::SetPlaybackFails(_) | Self::SetCaptureFails(_) | Self::SetDownstream(_) => Handed::Host,
             _ => Handed::Machine,
         }
+    }
+
+    /// Whether a call that gave `reply` has changed only what docs/LAYOUT.md says: the slices marked `*`, lists and queues no further than their least lengths, and of the
+    /// buffer that a pull or a save writes no more than it counts.
+    pub fn keeps_the_rest(self, reply: Reply, before: &Lent, after: &Lent) -> bool {
+        let none = Changes::default();
+        let changes = match self {
+            Self::New(_) | Self::SetPaused(_) => Changes { device: true, ..none },
+            Self::HostNew | Self::SetPlaybackFails(_) | Self::SetCaptureFails(_) | Self::SetDownstream(_) => Changes { host: true, ..none },
+            Self::Advance(_) => Changes { device: true, host: true, lists: true, queues: true, memory: true, ..none },
+            Self::Read(_) | Self::BarRead(..) => Changes { buffer: before.buffer.len(), ..none },
+            Self::Write(_) | Self::BarWrite(..) => Changes { device: true, host: true, memory: true, ..none },
+            Self::ConfigRead(_) => none,
+            Self::ConfigWrite(..) | Self::PinPresenceChanged(_) => Changes { device: true, memory: true, ..none },
+            Self::Save => Changes { buffer: reply.value() as usize, ..none },
+            Self::Restore => Changes { device: true, host: true, lists: true, ..none },
+            Self::Feed => Changes { host: true, queues: true, ..none },
+            Self::Pull => Changes { host: true, queues: true, buffer: 4 * reply.value() as usize, ..none },
+        };
+        let all = |changes: bool| if changes { usize::MAX } else { 0 };
+        is_same_from(&before.device, &after.device, all(changes.device))
+            && is_same_from(&before.host, &after.host, all(changes.host))
+            && is_same_from(&before.lists, &after.lists, if changes.lists { LISTS } else { 0 })
+            && is_same_from(&before.queues, &after.queues, if changes.queues { QUEUES } else { 0 })
+            && is_same_from(&before.memory, &after.memory, all(changes.memory))
+            && is_same_from(&before.buffer, &after.buffer, changes.buffer)
     }
 
     pub fn make(self, lent: &mut Lent) -> Reply {

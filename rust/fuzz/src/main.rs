@@ -1,7 +1,8 @@
 //! fuzz SEED ROUNDS: calls of any kind in any order on bytes of any length and content, most of them near a valid machine's.
 //!
-//! After each call: the number is one that document 01 gives here, 9 and 10 exactly where its conditions say so; a refusal has changed no byte; a machine that a call
-//! accepted is still valid; a restored machine is the one that document 01 says. Round R of a seed is round 0 of seed + R. That a call returns is seen by the run's end.
+//! After each call: the number is one that document 01 gives here, 9 and 10 exactly where its conditions say so; a refusal has changed no byte, and any call only what
+//! docs/LAYOUT.md says; a machine that a call accepted is still valid; a restored machine is the one that document 01 says. Round R of a seed is round 0 of seed + R. That
+//! a call returns is seen by the run's end.
 use fuzz::any::{Call, Handed, Lent, is_valid_downstream};
 use fuzz::states;
 use port::layout::{DEVICE, HOST, LIST, LISTS, MAX_STATE, POSITIONS, QUEUES, STATE, STREAMS, device, get, host, put, stream};
@@ -83,7 +84,7 @@ fn check(call: Call, reply: Reply, before: &Lent, after: &Lent) -> Result<(), St
         "the machine is no longer valid",
     )?;
     is(call != Call::Restore || number != number::DONE || is_restored(before, after), "not the machine of the state")?;
-    is(before.device.len() == after.device.len() && before.memory.len() == after.memory.len(), "a length changed")
+    is(call.keeps_the_rest(reply, before, after), "more changed than the call may change")
 }
 
 fn is_restored(before: &Lent, after: &Lent) -> bool {
