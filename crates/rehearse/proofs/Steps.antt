@@ -1,14 +1,16 @@
--- Laws of the calls that take more than one step: a new device behind a new host end, bytes laid into guest memory, and a part that is lent. Assumes nothing.
+-- Laws of the calls that take more than one step: a new device behind a new host end, a state that comes back beside guest memory, bytes laid into guest
+-- memory, and a part that is lent. Assumes nothing.
 use Prim.Native.Nat.{ℕ, _-_, _≤_, _<_}
-use mathlib.Core.Path.{_≡_, sym, ap, _∙_}
-use mathlib.Core.Bool.{Bool}
+use mathlib.Core.Path.{_≡_, refl, sym, ap, _∙_}
+use mathlib.Core.Bool.{Bool, true, false, cond}
 use mathlib.Core.Logic.{_≢_}
 use mathlib.Core.List.{List}
 use lib.ListN.{length, take, replicate, length-replicate}
 use lib.Seq.{length-take-le}
 use borrow.Author.Tests.{eq-eqb, ne-eqb, lt-ltb, le-ltb}
 use Rattle.word.specs.Place.{putAt}
-use Rattle.port_device.specs.Calls.{Made, made, Stored, storedOut, newOf}
+use Rattle.port_device.specs.Calls.{Returned, returned, lent, behind, none, restoredBy, Made, made, Stored, storedOut, newOf}
+use Rattle.reply.specs.Replies.{isMachine}
 use Rattle.port_host.specs.Calls.{Kept, kept}
 use Rattle.port_host.specs.Calls as hosts
 use Rattle.rehearse.specs.Calls.{freshOf, reached, pokeOf}
@@ -22,6 +24,21 @@ module _ (microphone : Bool) (device host : List ℕ) (lists queues : ℕ) (h : 
       → storedOut d laid end ≡ freshOf microphone device host lists queues
   unfolding freshOf
   fresh-done z d laid f = rw (← e, eq-eqb h 0 z, ← f)
+
+-- restore is lent no guest memory: what there is stays
+module _ (memory : List ℕ) where
+  abbrev beside : Returned → Returned
+  beside x = returned (x .reply) (lent (x .lent .device) (x .lent .host) (x .lent .lists) (x .lent .queues) memory)
+
+  beside-cond : (b : Bool) (x y : Returned) → beside (cond b x y) ≡ cond b (beside x) (beside y)
+  beside-cond true x y = refl
+  beside-cond false x y = refl
+
+  pub restored-beside : (state device host lists queues : List ℕ) (r : ℕ) (d h l : List ℕ)
+      → returned r (lent d h l queues none) ≡ behind (restoredBy state) (lent device host lists queues none)
+      → returned r (lent d h l queues memory) ≡ behind (restoredBy state) (lent device host lists queues memory)
+  unfolding behind
+  restored-beside state device host lists queues r d h l e = ap beside e ∙ beside-cond (isMachine device host) _ _
 
 module _ (address : ℕ) (bytes memory : List ℕ) where
   pub poke-behind : length memory < address → reached 1 memory ≡ pokeOf address bytes memory

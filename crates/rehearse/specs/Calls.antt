@@ -9,7 +9,7 @@ use Rattle.write.specs.Writes.{writeOf}
 use Rattle.hda.specs.Calls.{barWriteOf, configWriteOf, pinOf}
 use Rattle.driver.specs.Calls.{playbackFailsOf, captureFailsOf, downstreamOf}
 use Rattle.word.specs.Place.{putAt}
-use Rattle.port_device.specs.Calls.{Lent, Returned, returned, behind, Stored, storedOut, newOf}
+use Rattle.port_device.specs.Calls.{Lent, Returned, returned, behind, restoredBy, Stored, storedOut, newOf}
 use Rattle.port_reads.specs.Reads.{Shown, shown, readOf, barReadOf, configReadOf, saveOf}
 use Rattle.port_host.specs.Calls.{PulledBytes, pulledOut, feedOf, pullOf, setting}
 use Rattle.port_host.specs.Calls as hosts
@@ -29,7 +29,7 @@ freshOf microphone device host lists queues =
     let d = newOf microphone device lists queues in
     cond (eqb (h .reply) 0) (storedOut (d .reply) (d .device) (h .host)) (storedOut (h .reply) device (h .host))
 
--- 10 time passes, 11 a write, 12 one by base address, 13 one to the configuration, 14 a pin's change
+-- 10 time passes, 11 a write, 12 one by base address, 13 one to the configuration, 14 a pin's change, 16 a saved state comes back
 unfoldable pub changeOf : ℕ → ℕ → ℕ → List ℕ → Lent → Returned
 changeOf kind first second bytes x =
     cond (eqb kind 10) (behind (advanceOf first) x)
@@ -37,7 +37,8 @@ changeOf kind first second bytes x =
     (cond (eqb kind 12) (behind (barWriteOf (lowOf second) first bytes) x)
     (cond (eqb kind 13) (behind (configWriteOf first second bytes) x)
     (cond (eqb kind 14) (behind (pinOf (lowOf first)) x)
-    (returned none x)))))
+    (cond (eqb kind 16) (behind (restoredBy bytes) x)
+    (returned none x))))))
 
 -- 20 a read, 21 one by base address, 22 one of the configuration, 23 the saved state
 unfoldable pub showOf : ℕ → ℕ → ℕ → List ℕ → List ℕ → List ℕ → ℕ → List ℕ → Shown

@@ -65,6 +65,7 @@ pub fn change(
         ),
         13 => port_device::config_write(device, host, lists, queues, memory, first, second, bytes),
         14 => port_device::pin_presence_changed(device, host, lists, queues, memory, low(first)),
+        16 => port_device::restore(device, host, lists, queues, bytes),
         _ => NONE,
     }
 }

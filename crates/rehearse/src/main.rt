@@ -30,10 +30,10 @@ fn main() {
 }
 
 // Zeros, for a file of at most as many bytes. The `ensures` gives the length alone, which lending the array as a slice needs.
-fn room() -> [u8; 1048576]
-    ensures { λ r. ⌜ 1048576 ≡ length r ⌝ }
+fn room() -> [u8; 1310720]
+    ensures { λ r. ⌜ 1310720 ≡ length r ⌝ }
 {
-    [0; 1048576]
+    [0; 1310720]
 }
 
 // The spaces that calls are lent: records, lists, queues, guest memory, and room for what a call reads.

@@ -9,6 +9,7 @@ pub mod lockstep;
 pub mod ops;
 pub mod ported;
 pub mod record;
+pub mod refused;
 pub mod shrink;
 pub mod side;
 pub mod state;

@@ -4,10 +4,12 @@
 //! 15 second number (8), 23 what it returns (8), 31 digest (4). What it returns is what the port's C function does; the digest is that of the
 //! room and of all that device and host end hold, in the layout of docs/LAYOUT.md, or that of guest memory for the kind that looks at it.
 //!
-//! Calls that met a difference of document 01 are not recorded: a sequence ends before its first. Restored states are not among them.
+//! Calls that met a difference of document 01 are not recorded: a sequence ends before its first. States are restored as the generator has them, and at
+//! times the device's own: damaged, so that every number is among the answers, then as it is.
 use crate::device::{Amended, Reference};
 use crate::generate::Generator;
 use crate::ops::{Op, execute};
+use crate::refused;
 use crate::side::{Answer, Direction, Side, View};
 use crate::state::State;
 use crate::trace;
@@ -25,6 +27,7 @@ mod kind {
     pub const CONFIG_WRITE: u8 = 13;
     pub const PIN: u8 = 14;
     pub const PAUSE: u8 = 15;
+    pub const RESTORE: u8 = 16;
     pub const READ: u8 = 20;
     pub const BAR_READ: u8 = 21;
     pub const CONFIG_READ: u8 = 22;
@@ -40,6 +43,9 @@ mod kind {
 const SEEDS: u64 = 24;
 const LENGTH: usize = 240;
 const SHORTEST: usize = 120;
+/// Calls between two restores of the device's own state, and the longest state that is restored: one with 32 positions, so that the file stays small.
+const RESTORES: usize = 120;
+const LONGEST: usize = 748 + 8 * 32;
 /// Calls between two looks at guest memory.
 const LOOKS: usize = 32;
 /// The driver's trace: its guest memory, the lines between two advances, their time, and the lines between two visits of the host.
@@ -67,15 +73,27 @@ fn generated(seed: u64, tame: bool) -> Option<Vec<u8>> {
     let mut calls = 0;
     while calls < LENGTH {
         let op = generator.next_op();
-        if matches!(op, Op::Restore(_) | Op::List { .. } | Op::Close(_) | Op::Peek { .. }) {
+        if !is_recorded(&op) {
             continue;
         }
         let Some(answer) = recorder.call(&op) else { break };
         generator.observe(&op, &answer);
         calls += 1;
+        if calls.is_multiple_of(RESTORES) && recorder.restores(seed as usize * LENGTH / RESTORES + calls / RESTORES).is_none() {
+            break;
+        }
     }
     recorder.look();
     (calls >= SHORTEST).then_some(recorder.data)
+}
+
+/// Whether there is a kind for the call, and the bytes that it hands over are few enough.
+fn is_recorded(op: &Op) -> bool {
+    match op {
+        Op::Restore(state) => state.len() <= LONGEST,
+        Op::List { .. } | Op::Close(_) | Op::Peek { .. } => false,
+        _ => true,
+    }
 }
 
 /// A driver's trace, with time passing and the host pulling and feeding.
@@ -143,6 +161,16 @@ impl Recorder {
         Some(answer)
     }
 
+    /// The device's own state damaged as the turn says, then as it is; none where a call met a difference.
+    fn restores(&mut self, turn: usize) -> Option<()> {
+        let saved = self.call(&Op::Save)?.bytes;
+        let scene = refused::scene(turn, &saved);
+        for op in scene.into_iter().chain([Op::Restore(saved)]).filter(is_recorded) {
+            self.call(&op)?;
+        }
+        Some(())
+    }
+
     fn lay(&mut self, op: &Op, answer: &Answer) {
         let room = answer.bytes.len();
         let turn = matches!(op, Op::Read { .. } | Op::Write { .. });
@@ -160,6 +188,7 @@ impl Recorder {
             }
             Op::Pin(node) => Call { kind: kind::PIN, first: u64::from(*node), ..plain },
             Op::Pause(paused) => Call { kind: kind::PAUSE, first: u64::from(*paused), ..plain },
+            Op::Restore(state) => Call { kind: kind::RESTORE, bytes: state, ..plain },
             Op::Read { offset, .. } => Call { kind: if by_bar { kind::BAR_READ } else { kind::READ }, first: *offset, room, ..plain },
             Op::ConfigRead(register) => Call { kind: kind::CONFIG_READ, first: *register, ..plain },
             Op::Save => Call { kind: kind::SAVE, room, ..plain },
@@ -268,5 +297,29 @@ fn fill(memory: &mut [u8], seed: u64) {
     for byte in memory {
         power = power * 48_271 % MODULUS;
         *byte = (power / 8_388_608) as u8;
+    }
+}
+
+#[cfg(test)]
+mod tests {
+    use super::*;
+    use std::collections::BTreeSet;
+
+    /// The numbers that recorded restores returned.
+    fn numbers(mut data: &[u8]) -> BTreeSet<u8> {
+        let mut numbers = BTreeSet::new();
+        while let Some(kind) = data.first() {
+            if *kind == kind::RESTORE {
+                numbers.insert(data[23]);
+            }
+            data = &data[35 + layout::get::<2>(data, 1) as usize..];
+        }
+        numbers
+    }
+
+    #[test]
+    fn restores_are_accepted_and_refused_with_every_number() {
+        let data = record("").expect("an empty trace meets no difference");
+        assert_eq!(numbers(&data), (0..=9).collect());
     }
 }

@@ -4,7 +4,7 @@ use Rattle.rehearse.proofs.room.Statement.{statement}
 use Rattle.rehearse.proofs.room.Tie as tie
 
 returns : tie.Need-returns
-returns c = zeros-length 1048576
+returns c = zeros-length 1310720
 
 pub room-spec : {M : Type 1} → statement M
 room-spec = tie.close (tie.spec returns)

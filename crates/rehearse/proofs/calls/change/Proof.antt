@@ -2,6 +2,7 @@
 use mathlib.Core.Path.{_∙_}
 use borrow.Author.Tests.{ne-eqb}
 use Rattle.rehearse.specs.Calls.{changeOf}
+use Rattle.rehearse.proofs.Steps.{restored-beside}
 use borrow.Author.Needs.{needs}
 use Rattle.rehearse.proofs.calls.change.Statement.{statement}
 use Rattle.rehearse.proofs.calls.change.Tie as tie
@@ -26,6 +27,9 @@ low-requires-2 c κs = search needs
 
 pin-presence-changed-requires : tie.Need-pin-presence-changed-requires
 pin-presence-changed-requires c κs = search needs
+
+restore-requires : tie.Need-restore-requires
+restore-requires c κs = search needs
 
 same-length : tie.Need-same-length
 same-length c = search needs
@@ -127,11 +131,29 @@ unfolding changeOf
 returns-5 c =
     c .before .before .before .before .pin-presence-changed .ensures ∙ rw (c .before .before .before .before .before .before .before .before .before .before .before .match .keys5, c .before .before .before .before .before .low2 .ensures)
 
+same-length-26 : tie.Need-same-length-26
+same-length-26 c = search needs
+
+same-length-27 : tie.Need-same-length-27
+same-length-27 c = search needs
+
+same-length-28 : tie.Need-same-length-28
+same-length-28 c = search needs
+
+same-length-29 : tie.Need-same-length-29
+same-length-29 c = search needs
+
 returns-6 : tie.Need-returns-6
 unfolding changeOf
 returns-6 c =
+    let a = c .before .before .before .before .before .before .before .before .before .before .before .before .before .before .before .before .before .before .args in
+    restored-beside (a .memory .now) (a .bytes .now) (a .device .now) (a .host .now) (a .lists .now) (a .queues .now) _ _ _ _ (c .before .before .before .before .before .before .restore .ensures) ∙ rw (c .before .before .before .before .before .before .before .before .before .before .before .match .keys6)
+
+returns-7 : tie.Need-returns-7
+unfolding changeOf
+returns-7 c =
     let none = c .match .rest in
-    simp (ne-eqb _ _ (none .1), ne-eqb _ _ (none .0 .1), ne-eqb _ _ (none .0 .0 .1), ne-eqb _ _ (none .0 .0 .0 .1), ne-eqb _ _ (none .0 .0 .0 .0 .1))
+    simp (ne-eqb _ _ (none .1), ne-eqb _ _ (none .0 .1), ne-eqb _ _ (none .0 .0 .1), ne-eqb _ _ (none .0 .0 .0 .1), ne-eqb _ _ (none .0 .0 .0 .0 .1), ne-eqb _ _ (none .0 .0 .0 .0 .0 .1))
 
 pub change-spec : {M : Type 1} → statement M
 change-spec =
@@ -144,6 +166,7 @@ change-spec =
     config-write-requires
     low-requires-2
     pin-presence-changed-requires
+    restore-requires
     same-length
     same-length-2
     same-length-3
@@ -174,4 +197,9 @@ change-spec =
     same-length-24
     same-length-25
     returns-5
-    returns-6)
+    same-length-26
+    same-length-27
+    same-length-28
+    same-length-29
+    returns-6
+    returns-7)
