@@ -1,4 +1,5 @@
--- The laws of specs/: digests, noise, calls by their kind.
+-- The laws of specs/: digests, noise, calls by their kind, and the verdict on them.
 pub mod Digests
 pub mod Noises
 pub mod Steps
+pub mod Verdicts

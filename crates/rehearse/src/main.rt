@@ -2,8 +2,8 @@
 // what the Rust returned and a digest of all that it then held (src/call.rt); `judge record` of rust/harness writes it. The line that is printed says
 // that all were as recorded, or which was the first that was not.
 //
-// No contract can say what a file holds. So what a call gives is stated in calls.rt, digest.rt, noise.rt and verdict.rt, and of what reads and prints
-// it is proved that it is safe and ends.
+// No contract can say what a file holds. So what is stated is what any bytes give: calls.rt, digest.rt, noise.rt and verdict.rt have it for one call, play.rt
+// for all of them. Of what reads the bytes and prints the tally it is proved that it is safe and ends.
 mod call;
 mod calls;
 mod digest;

@@ -3,7 +3,9 @@ use crate::call;
 use crate::call::Call;
 use crate::verdict;
 ghost use mathlib.Core.Path.{_≡_};
+ghost use Rattle.port_device.specs.Calls.{lent};
 ghost use Rattle.rehearse.specs.Recorded.{countedOf, lengthOf};
+ghost use Rattle.rehearse.specs.Verdict.{played, playOf};
 
 // How many calls and sequences there were, and whether all were as recorded.
 pub struct Tally {
@@ -43,6 +45,7 @@ fn length_of(call: Call, length: usize) -> usize
     length
 }
 
+// What a file's bytes have, whatever they are.
 pub fn play(
     all: &[u8],
     device: &mut [u8],
@@ -51,7 +54,9 @@ pub fn play(
     queues: &mut [u8],
     memory: &mut [u8],
     room: &mut [u8],
-) -> Tally {
+) -> Tally
+    ensures { λ r. ⌜ played r (lent (now (device .exit)) (now (host .exit)) (now (lists .exit)) (now (queues .exit)) (now (memory .exit))) (now (room .exit)) ≡ playOf (now (all .entry)) (lent (now (device .entry)) (now (host .entry)) (now (lists .entry)) (now (queues .entry)) (now (memory .entry))) (now (room .entry)) ⌝ }
+{
     let mut tally = Tally {
         calls: 0,
         sequences: 0,

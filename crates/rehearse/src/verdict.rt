@@ -3,13 +3,17 @@ use crate::call::Call;
 use crate::calls;
 use crate::digest;
 ghost use mathlib.Core.Path.{_≡_};
+ghost use Rattle.port_device.specs.Calls.{lent};
 ghost use Rattle.rehearse.specs.Digest.{lookedOf};
 ghost use Rattle.rehearse.specs.Recorded.{agreesOf};
+ghost use Rattle.rehearse.specs.Verdict.{performed, performOf, judged, erasedOf, runOf, judgeOf};
 
 // What bytes that a call is to give hold before it, so that those which it leaves alone are known.
 const UNTOUCHED: u8 = 0xee;
 
-fn erase(into: &mut [u8]) {
+fn erase(into: &mut [u8])
+    ensures { λ _. ⌜ now (into .exit) ≡ erasedOf (now (into .entry)) ⌝ }
+{
     let mut i = 0;
     while i < into.len() {
         into[i] = UNTOUCHED;
@@ -27,7 +31,9 @@ fn perform(
     queues: &mut [u8],
     memory: &mut [u8],
     into: &mut [u8],
-) -> u64 {
+) -> u64
+    ensures { λ r. ⌜ performed r (lent (now (device .exit)) (now (host .exit)) (now (lists .exit)) (now (queues .exit)) (now (memory .exit))) (now (into .exit)) ≡ performOf call (now (bytes .entry)) (lent (now (device .entry)) (now (host .entry)) (now (lists .entry)) (now (queues .entry)) (now (memory .entry))) (now (into .entry)) ⌝ }
+{
     let kind = call.kind;
     if kind == 0 {
         return calls::fresh(device, host, lists, queues, call.first != 0);
@@ -90,6 +96,7 @@ fn agrees(call: Call, reply: u64, digest: u32) -> bool
     (call.reply == reply) & (call.digest == digest)
 }
 
+// The call, and whether it gave what was recorded.
 fn run(
     call: Call,
     bytes: &[u8],
@@ -99,7 +106,9 @@ fn run(
     queues: &mut [u8],
     memory: &mut [u8],
     into: &mut [u8],
-) -> bool {
+) -> bool
+    ensures { λ r. ⌜ judged r (lent (now (device .exit)) (now (host .exit)) (now (lists .exit)) (now (queues .exit)) (now (memory .exit))) (now (into .exit)) ≡ runOf call (now (bytes .entry)) (lent (now (device .entry)) (now (host .entry)) (now (lists .entry)) (now (queues .entry)) (now (memory .entry))) (now (into .entry)) ⌝ }
+{
     erase(into);
     let reply = perform(call, bytes, device, host, lists, queues, memory, into);
     let digest = digest_of(call.kind, into, device, host, lists, queues, memory);
@@ -117,7 +126,9 @@ pub fn judge(
     memory: &mut [u8],
     room: &mut [u8],
     length: usize,
-) -> bool {
+) -> bool
+    ensures { λ r. ⌜ judged r (lent (now (device .exit)) (now (host .exit)) (now (lists .exit)) (now (queues .exit)) (now (memory .exit))) (now (room .exit)) ≡ judgeOf call (now (bytes .entry)) length (lent (now (device .entry)) (now (host .entry)) (now (lists .entry)) (now (queues .entry)) (now (memory .entry))) (now (room .entry)) ⌝ }
+{
     let count = call.room as usize;
     if memory.len() < length {
         return false;

@@ -1,8 +1,14 @@
--- `play` is safe and ends: each call lies past the one before. Assumes nothing.
-use Prim.Native.Nat.{_-_, _≤_}
-use mathlib.Core.Path.{_≡_, refl}
+-- `play` is `playOf`. The invariant: the calls from here leave what all of them leave, with fuel enough for the bytes that are left. The measure is these bytes:
+-- each call lies past the one before. Assumes nothing.
+use Prim.Native.Nat.{ℕ, _+_, _-_, _≤_}
+use mathlib.Core.Path.{_≡_, refl, sym, ap, _∙_}
 use native.Mathlib.Omega.{arith}
+use borrow.Author.Tests.{not-true, not-false}
 use lib.ListN.{length}
+use Rattle.port_device.specs.Calls.{lent}
+use Rattle.rehearse.specs.declared.play.Tally.{Tally}
+use Rattle.rehearse.specs.Verdict.{progress, begun, playFrom, playedOf}
+use Rattle.rehearse.proofs.Verdicts.{turn-short, turn-cut, turn-done, play-more, play-stop, play-end}
 use Rattle.rehearse.proofs.play.play.Statement.{statement}
 use Rattle.rehearse.proofs.play.play.Tie as tie
 
@@ -10,12 +16,16 @@ abbrev Inv-loop : tie.InvT-loop
 Inv-loop all device₀ host₀ lists₀ queues₀ memory₀ room₀ tally₀ size₀ at₀ device host lists queues memory room tally size at =
     (at ≤ length all) × (length device ≡ length device₀) × (length host ≡ length host₀) × (length lists ≡ length lists₀)
     × (length queues ≡ length queues₀) × (length memory ≡ length memory₀) × (length room ≡ length room₀)
+    × (fuel : ℕ) × (length all - at ≤ fuel)
+    × (playFrom fuel all (progress at size tally (lent device host lists queues memory) room)
+    ≡ playFrom (length all) all (progress 0 0 begun (lent device₀ host₀ lists₀ queues₀ memory₀) room₀))
 
 abbrev μ-loop : tie.MeasureT-loop
 μ-loop all device₀ host₀ lists₀ queues₀ memory₀ room₀ tally₀ size₀ at₀ device host lists queues memory room tally size at = length all - at
 
 loop-holds : tie.Need-loop-holds Inv-loop μ-loop
-loop-holds c = (omega arith, refl, refl, refl, refl, refl, refl)
+loop-holds c =
+    (omega arith, refl, refl, refl, refl, refl, refl, length (c .before .before .before .before .before .before .before .args .all .now), omega arith, refl)
 
 sub-if1 : tie.Need-sub-if1 Inv-loop μ-loop
 sub-if1 c = omega arith
@@ -42,7 +52,12 @@ same-length-6 : tie.Need-same-length-6 Inv-loop μ-loop
 same-length-6 c = omega arith
 
 returns : tie.Need-returns Inv-loop μ-loop
-returns c = tt
+returns c =
+    let l = c .before .before .before .loop in
+    let all = c .before .before .before .before .before .before .before .before .before .before .before .args .all .now in
+    let x = lent (l .device) (l .host) (l .lists) (l .queues) (l .memory) in
+    let turn = turn-short all (l .at) (l .length) (l .tally) x (l .room) _ (c .before .if1 .taken) (c .counted .ensures) in
+    ap playedOf (sym (play-stop all (progress (l .at) (l .length) (l .tally) x (l .room)) (l .inv .7) _ (c .before .before .loop-test .taken) (l .inv .8) turn (ap (λ (t : Tally). t .same) (c .counted .ensures))) ∙ l .inv .9)
 
 load-requires : tie.Need-load-requires Inv-loop μ-loop
 load-requires c κs = omega arith
@@ -78,7 +93,12 @@ same-length-12 : tie.Need-same-length-12 Inv-loop μ-loop
 same-length-12 c = omega arith
 
 returns-2 : tie.Need-returns-2 Inv-loop μ-loop
-returns-2 c = tt
+returns-2 c =
+    let l = c .before .before .before .before .before .before .loop in
+    let all = c .before .before .before .before .before .before .before .before .before .before .before .before .before .before .args .all .now in
+    let x = lent (l .device) (l .host) (l .lists) (l .queues) (l .memory) in
+    let turn = turn-cut all (l .at) (l .length) (l .tally) x (l .room) _ _ (c .before .before .before .load .ensures) (c .before .before .before .before .if1 .left) (c .before .if2 .taken) (c .counted2 .ensures) in
+    ap playedOf (sym (play-stop all (progress (l .at) (l .length) (l .tally) x (l .room)) (l .inv .7) _ (c .before .before .before .before .before .loop-test .taken) (l .inv .8) turn (ap (λ (t : Tally). t .same) (c .counted2 .ensures))) ∙ l .inv .9)
 
 add-end : tie.Need-add-end Inv-loop μ-loop
 add-end c = omega arith
@@ -120,13 +140,28 @@ same-length-18 : tie.Need-same-length-18 Inv-loop μ-loop
 same-length-18 c = omega arith
 
 returns-3 : tie.Need-returns-3 Inv-loop μ-loop
-returns-3 c = tt
+returns-3 c =
+    let judged = c .before .before .before .before .before .before .before .before .before .before .before .before .before .before in
+    let read = judged .before .before .before .before .before .before .before .before .before .before .before in
+    let l = read .before .before .before .loop in
+    let all = read .before .before .before .before .before .before .before .before .before .before .before .args .all .now in
+    let x = lent (l .device) (l .host) (l .lists) (l .queues) (l .memory) in
+    let n = read .load .result .count in
+    let turn = turn-done all (l .at) (l .length) (l .tally) x (l .room) _ _ (read .load .ensures) (read .before .if1 .left) (judged .before .before .before .before .before .before .before .before .before .if2 .left) _ (judged .before .before .before .before .before .before .before .before .length-of .ensures) (l .at + 35 + n - (l .at + 35)) _ (judged .judge .ensures) (omega arith) (c .before .counted3 .ensures) in
+    ap playedOf (sym (play-stop all (progress (l .at) (l .length) (l .tally) x (l .room)) (l .inv .7) _ (read .before .before .loop-test .taken) (l .inv .8) turn (ap (λ (t : Tally). t .same) (c .before .counted3 .ensures) ∙ not-true _ (c .if3 .taken))) ∙ l .inv .9)
 
 loop-less : tie.Need-loop-less Inv-loop μ-loop
 loop-less c = omega arith
 
 loop-again : tie.Need-loop-again Inv-loop μ-loop
-loop-again c = omega arith
+loop-again c =
+    let l = c .before .before .before .before .before .before .before .before .before .before .before .before .before .before .before .before .before .before .before .before .before .before .before .before .before .before .before .before .loop in
+    let all = c .before .before .before .before .before .before .before .before .before .before .before .before .before .before .before .before .before .before .before .before .before .before .before .before .before .before .before .before .before .before .before .before .before .before .before .before .args .all .now in
+    let x = lent (l .device) (l .host) (l .lists) (l .queues) (l .memory) in
+    let n = c .before .before .before .before .before .before .before .before .before .before .before .before .before .before .before .before .before .before .before .before .before .before .before .before .before .load .result .count in
+    let turn = turn-done all (l .at) (l .length) (l .tally) x (l .room) _ _ (c .before .before .before .before .before .before .before .before .before .before .before .before .before .before .before .before .before .before .before .before .before .before .before .before .before .load .ensures) (c .before .before .before .before .before .before .before .before .before .before .before .before .before .before .before .before .before .before .before .before .before .before .before .before .before .before .if1 .left) (c .before .before .before .before .before .before .before .before .before .before .before .before .before .before .before .before .before .before .before .before .before .before .before .if2 .left) _ (c .before .before .before .before .before .before .before .before .before .before .before .before .before .before .before .before .before .before .before .before .before .before .length-of .ensures) (l .at + 35 + n - (l .at + 35)) _ (c .before .before .before .before .before .before .before .before .before .before .before .before .before .before .judge .ensures) (omega arith) (c .before .counted3 .ensures) in
+    let k = play-more all (progress (l .at) (l .length) (l .tally) x (l .room)) (l .inv .7) _ (c .before .before .before .before .before .before .before .before .before .before .before .before .before .before .before .before .before .before .before .before .before .before .before .before .before .before .before .loop-test .taken) (l .inv .8) turn (ap (λ (t : Tally). t .same) (c .before .counted3 .ensures) ∙ not-false _ (c .if3 .left)) in
+    (omega arith, omega arith, omega arith, omega arith, omega arith, omega arith, omega arith, k .0, omega (arith, k .1, l .inv .8), sym (k .2) ∙ l .inv .9)
 
 same-length-19 : tie.Need-same-length-19 Inv-loop μ-loop
 same-length-19 c = omega arith
@@ -147,7 +182,10 @@ same-length-24 : tie.Need-same-length-24 Inv-loop μ-loop
 same-length-24 c = omega arith
 
 returns-4 : tie.Need-returns-4 Inv-loop μ-loop
-returns-4 c = tt
+returns-4 c =
+    let l = c .before .loop in
+    let x = lent (l .device) (l .host) (l .lists) (l .queues) (l .memory) in
+    ap playedOf (sym (play-end (c .before .before .before .before .before .before .before .before .before .args .all .now) (progress (l .at) (l .length) (l .tally) x (l .room)) (l .inv .7) (c .loop-test .left)) ∙ l .inv .9)
 
 pub play-spec : {M : Type 1} → statement M
 play-spec =

@@ -1,19 +1,22 @@
--- `erase` is safe and ends. Assumes nothing.
-use Prim.Native.Nat.{_-_, _≤_}
-use mathlib.Core.Path.{_≡_, refl}
+-- `erase` is `erasedOf`. The invariant: the first i bytes are erased and the others as they were. The measure is what is left. Assumes nothing.
+use Prim.Native.Nat.{ℕ, _-_, _≤_}
+use mathlib.Core.Path.{_≡_, refl, ap, _∙_}
+use mathlib.Core.List.{List, _++_}
 use native.Mathlib.Omega.{arith}
-use lib.ListN.{length, length-set}
+use borrow.Author.Fill.{fill-more}
+use lib.ListN.{length, set, drop, replicate, length-set}
+use Rattle.rehearse.proofs.Verdicts.{all-erased}
 use Rattle.rehearse.proofs.verdict.erase.Statement.{statement}
 use Rattle.rehearse.proofs.verdict.erase.Tie as tie
 
 abbrev Inv-loop : tie.InvT-loop
-Inv-loop into₀ i₀ into i = (i ≤ length into) × (length into ≡ length into₀)
+Inv-loop into₀ i₀ into i = (into ≡ replicate i 0xee ++ drop i into₀) × (i ≤ length into₀) × (length into ≡ length into₀)
 
 abbrev μ-loop : tie.MeasureT-loop
-μ-loop into₀ i₀ into i = length into - i
+μ-loop into₀ i₀ into i = length into₀ - i
 
 loop-holds : tie.Need-loop-holds Inv-loop μ-loop
-loop-holds c = (omega arith, refl)
+loop-holds c = (refl, omega arith, refl)
 
 slice-write-into : tie.Need-slice-write-into Inv-loop μ-loop
 slice-write-into c = omega arith
@@ -22,16 +25,21 @@ add-i : tie.Need-add-i Inv-loop μ-loop
 add-i c = omega arith
 
 loop-less : tie.Need-loop-less Inv-loop μ-loop
-loop-less c = simp length-set (omega arith)
+loop-less c = omega arith
 
 loop-again : tie.Need-loop-again Inv-loop μ-loop
-loop-again c = (simp length-set (omega arith), simp length-set (omega arith))
+loop-again c =
+    let l = c .before .loop in
+    let into = c .before .before .args .into .now in
+    (ap (λ (x : List ℕ). set x (l .i) 0xee) (l .inv .0) ∙ fill-more (l .i) 0xee into (omega arith), omega arith, length-set (l .into) (l .i) 0xee ∙ l .inv .2)
 
 same-length : tie.Need-same-length Inv-loop μ-loop
 same-length c = omega arith
 
 returns : tie.Need-returns Inv-loop μ-loop
-returns c = tt
+returns c =
+    let l = c .before .loop in
+    all-erased (l .into) (c .before .before .args .into .now) (l .i) (omega arith) (omega arith) (l .inv .0)
 
 pub erase-spec : {M : Type 1} → statement M
 erase-spec =

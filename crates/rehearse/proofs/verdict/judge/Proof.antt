@@ -1,6 +1,8 @@
--- `judge` is safe and ends. Assumes nothing.
+-- `judge` is `judgeOf`: the tests of memory and room, then `run` on their parts. Assumes nothing.
 use native.Mathlib.Omega.{arith}
+use Rattle.port_device.specs.Calls.{lent}
 use Rattle.rehearse.proofs.Steps.{prefix-length}
+use Rattle.rehearse.proofs.Verdicts.{judge-outside, judge-narrow, judge-done}
 use borrow.Author.Needs.{needs}
 use Rattle.rehearse.proofs.verdict.judge.Statement.{statement}
 use Rattle.rehearse.proofs.verdict.judge.Tie as tie
@@ -9,10 +11,14 @@ cast-count : tie.Need-cast-count
 cast-count c = search needs
 
 returns : tie.Need-returns
-returns c = search needs
+returns c =
+    let a = c .before .before .before .before .before .before .before .before .before .args in
+    judge-outside (a .call) (a .bytes .now) (a .length) (lent (a .device .now) (a .host .now) (a .lists .now) (a .queues .now) (a .memory .now)) (a .room .now) (c .if1 .taken)
 
 returns-2 : tie.Need-returns-2
-returns-2 c = search needs
+returns-2 c =
+    let a = c .before .before .before .before .before .before .before .before .before .before .args in
+    judge-narrow (a .call) (a .bytes .now) (a .length) (lent (a .device .now) (a .host .now) (a .lists .now) (a .queues .now) (a .memory .now)) (a .room .now) (c .before .if1 .left) (c .if2 .taken)
 
 slice-relend-prefix-run : tie.Need-slice-relend-prefix-run
 slice-relend-prefix-run c = search needs
@@ -48,7 +54,10 @@ same-length-6 : tie.Need-same-length-6
 same-length-6 c = search needs
 
 returns-3 : tie.Need-returns-3
-returns-3 c = search needs
+returns-3 c =
+    let tested = c .before .before .before .before .before .before .before .before .before .before .before .before .before .before .before .before .before .before .before in
+    let a = tested .before .before .before .before .before .before .before .before .before .before .args in
+    judge-done (a .call) (a .bytes .now) (a .length) (lent (a .device .now) (a .host .now) (a .lists .now) (a .queues .now) (a .memory .now)) (a .room .now) (tested .before .if1 .left) (tested .if2 .left) _ (c .before .before .before .before .before .before .before .before .before .before .before .before .run .ensures)
 
 pub judge-spec : {M : Type 1} → statement M
 judge-spec =
