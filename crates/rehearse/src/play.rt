@@ -45,7 +45,7 @@ fn length_of(call: Call, length: usize) -> usize
     length
 }
 
-// What a file's bytes have, whatever they are.
+// The calls in the bytes of a file, whatever these are.
 pub fn play(
     all: &[u8],
     device: &mut [u8],

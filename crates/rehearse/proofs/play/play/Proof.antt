@@ -2,12 +2,13 @@
 -- each call lies past the one before. Assumes nothing.
 use Prim.Native.Nat.{ℕ, _+_, _-_, _≤_}
 use mathlib.Core.Path.{_≡_, refl, sym, ap, _∙_}
+use mathlib.Core.List.{List}
 use native.Mathlib.Omega.{arith}
 use borrow.Author.Tests.{not-true, not-false}
 use lib.ListN.{length}
 use Rattle.port_device.specs.Calls.{lent}
 use Rattle.rehearse.specs.declared.play.Tally.{Tally}
-use Rattle.rehearse.specs.Verdict.{progress, begun, playFrom, playedOf}
+use Rattle.rehearse.specs.Verdict.{Progress, progress, begun, turnOf, playFrom, playedOf}
 use Rattle.rehearse.proofs.Verdicts.{turn-short, turn-cut, turn-done, play-more, play-stop, play-end}
 use Rattle.rehearse.proofs.play.play.Statement.{statement}
 use Rattle.rehearse.proofs.play.play.Tie as tie
@@ -22,6 +23,35 @@ Inv-loop all device₀ host₀ lists₀ queues₀ memory₀ room₀ tally₀ siz
 
 abbrev μ-loop : tie.MeasureT-loop
 μ-loop all device₀ host₀ lists₀ queues₀ memory₀ room₀ tally₀ size₀ at₀ device host lists queues memory room tally size at = length all - at
+
+-- after a call was counted: where it was judged and where it was read; the loop's head and the function's start
+abbrev Verdict : tie.After-counted3 Inv-loop μ-loop → tie.After-judge Inv-loop μ-loop
+Verdict c = c .before .before .before .before .before .before .before .before .before .before .before .before .before
+
+abbrev Read : tie.After-counted3 Inv-loop μ-loop → tie.After-load Inv-loop μ-loop
+Read c = Verdict c .before .before .before .before .before .before .before .before .before .before .before
+
+abbrev Loop : tie.After-counted3 Inv-loop μ-loop → tie.At-loop Inv-loop μ-loop
+Loop c = Read c .before .before .before
+
+abbrev All : tie.After-counted3 Inv-loop μ-loop → List ℕ
+All c = Loop c .before .before .before .before .before .before .before .before .args .all .now
+
+-- the progress at the loop's head, and behind the call
+abbrev Here : tie.After-counted3 Inv-loop μ-loop → Progress
+Here c = let l = Loop c .loop in progress (l .at) (l .length) (l .tally) (lent (l .device) (l .host) (l .lists) (l .queues) (l .memory)) (l .room)
+
+abbrev There : tie.After-counted3 Inv-loop μ-loop → Progress
+There c =
+    let e = Verdict c .judge .last .1 .1 in
+    progress (Loop c .loop .at + 35 + Read c .load .result .count) (Verdict c .before .before .before .before .before .before .before .before .length-of .result) (c .counted3 .result)
+    (lent (e .0) (e .1 .0) (e .1 .1 .0) (e .1 .1 .1 .0) (e .1 .1 .1 .1 .0)) (e .1 .1 .1 .1 .1 .0)
+
+turned : (c : tie.After-counted3 Inv-loop μ-loop) → There c ≡ turnOf (All c) (Here c)
+turned c =
+    let l = Loop c .loop in
+    let n = Read c .load .result .count in
+    turn-done (All c) (l .at) (l .length) (l .tally) (Here c .lent) (l .room) _ _ (Read c .load .ensures) (Read c .before .if1 .left) (Verdict c .before .before .before .before .before .before .before .before .before .if2 .left) _ (Verdict c .before .before .before .before .before .before .before .before .length-of .ensures) (l .at + 35 + n - (l .at + 35)) _ (Verdict c .judge .ensures) (omega arith) (c .counted3 .ensures)
 
 loop-holds : tie.Need-loop-holds Inv-loop μ-loop
 loop-holds c =
@@ -141,27 +171,18 @@ same-length-18 c = omega arith
 
 returns-3 : tie.Need-returns-3 Inv-loop μ-loop
 returns-3 c =
-    let judged = c .before .before .before .before .before .before .before .before .before .before .before .before .before .before in
-    let read = judged .before .before .before .before .before .before .before .before .before .before .before in
-    let l = read .before .before .before .loop in
-    let all = read .before .before .before .before .before .before .before .before .before .before .before .args .all .now in
-    let x = lent (l .device) (l .host) (l .lists) (l .queues) (l .memory) in
-    let n = read .load .result .count in
-    let turn = turn-done all (l .at) (l .length) (l .tally) x (l .room) _ _ (read .load .ensures) (read .before .if1 .left) (judged .before .before .before .before .before .before .before .before .before .if2 .left) _ (judged .before .before .before .before .before .before .before .before .length-of .ensures) (l .at + 35 + n - (l .at + 35)) _ (judged .judge .ensures) (omega arith) (c .before .counted3 .ensures) in
-    ap playedOf (sym (play-stop all (progress (l .at) (l .length) (l .tally) x (l .room)) (l .inv .7) _ (read .before .before .loop-test .taken) (l .inv .8) turn (ap (λ (t : Tally). t .same) (c .before .counted3 .ensures) ∙ not-true _ (c .if3 .taken))) ∙ l .inv .9)
+    let d = c .before in
+    let l = Loop d .loop in
+    ap playedOf (sym (play-stop (All d) (Here d) (l .inv .7) (There d) (Read d .before .before .loop-test .taken) (l .inv .8) (turned d) (ap (λ (t : Tally). t .same) (d .counted3 .ensures) ∙ not-true _ (c .if3 .taken))) ∙ l .inv .9)
 
 loop-less : tie.Need-loop-less Inv-loop μ-loop
 loop-less c = omega arith
 
 loop-again : tie.Need-loop-again Inv-loop μ-loop
 loop-again c =
-    let l = c .before .before .before .before .before .before .before .before .before .before .before .before .before .before .before .before .before .before .before .before .before .before .before .before .before .before .before .before .loop in
-    let all = c .before .before .before .before .before .before .before .before .before .before .before .before .before .before .before .before .before .before .before .before .before .before .before .before .before .before .before .before .before .before .before .before .before .before .before .before .args .all .now in
-    let x = lent (l .device) (l .host) (l .lists) (l .queues) (l .memory) in
-    let n = c .before .before .before .before .before .before .before .before .before .before .before .before .before .before .before .before .before .before .before .before .before .before .before .before .before .load .result .count in
-    let turn = turn-done all (l .at) (l .length) (l .tally) x (l .room) _ _ (c .before .before .before .before .before .before .before .before .before .before .before .before .before .before .before .before .before .before .before .before .before .before .before .before .before .load .ensures) (c .before .before .before .before .before .before .before .before .before .before .before .before .before .before .before .before .before .before .before .before .before .before .before .before .before .before .if1 .left) (c .before .before .before .before .before .before .before .before .before .before .before .before .before .before .before .before .before .before .before .before .before .before .before .if2 .left) _ (c .before .before .before .before .before .before .before .before .before .before .before .before .before .before .before .before .before .before .before .before .before .before .length-of .ensures) (l .at + 35 + n - (l .at + 35)) _ (c .before .before .before .before .before .before .before .before .before .before .before .before .before .before .judge .ensures) (omega arith) (c .before .counted3 .ensures) in
-    let k = play-more all (progress (l .at) (l .length) (l .tally) x (l .room)) (l .inv .7) _ (c .before .before .before .before .before .before .before .before .before .before .before .before .before .before .before .before .before .before .before .before .before .before .before .before .before .before .before .loop-test .taken) (l .inv .8) turn (ap (λ (t : Tally). t .same) (c .before .counted3 .ensures) ∙ not-false _ (c .if3 .left)) in
-    (omega arith, omega arith, omega arith, omega arith, omega arith, omega arith, omega arith, k .0, omega (arith, k .1, l .inv .8), sym (k .2) ∙ l .inv .9)
+    let inv = Loop (c .before) .loop .inv in
+    let k = play-more (All (c .before)) (Here (c .before)) (inv .7) (There (c .before)) (Read (c .before) .before .before .loop-test .taken) (inv .8) (turned (c .before)) (ap (λ (t : Tally). t .same) (c .before .counted3 .ensures) ∙ not-false _ (c .if3 .left)) in
+    (omega arith, omega arith, omega arith, omega arith, omega arith, omega arith, omega arith, k .0, omega (arith, k .1, inv .8), sym (k .2) ∙ inv .9)
 
 same-length-19 : tie.Need-same-length-19 Inv-loop μ-loop
 same-length-19 c = omega arith
