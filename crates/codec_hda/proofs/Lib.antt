@@ -3,3 +3,4 @@ pub mod Exceptional
 pub mod Agreement
 pub mod Witnesses
 pub mod Coverage
+pub mod Resets

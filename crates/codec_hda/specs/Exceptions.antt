@@ -26,9 +26,9 @@ pub data Exception : Type 0 where
   PowerActual : Exception
   -- pin control bits 4..3: reserved in HDA; the device keeps them
   PinReserved : Exception
-  -- pin sense: no pin here declares it; the device replies presence on every node
+  -- pin sense: no pin here declares it; the device replies presence on nodes 1 to 5
   PinSense : Exception
-  -- the subsystem identity: HDA has it on the function group, settable; the device replies it on every node and keeps it
+  -- the subsystem identity: HDA has it on the function group, settable; the device replies it on nodes 1 to 5 and keeps it
   Subsystem : Exception
   -- function reset: HDA keeps the configuration defaults; the device resets them
   ResetDefaults : Exception

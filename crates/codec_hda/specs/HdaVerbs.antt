@@ -1,8 +1,9 @@
 -- The verbs by HDA 1.0a 7.3.3: which nodes have a verb follows from what they declare (HdaParameters), and a verb that a node lacks changes
 -- nothing and replies 0 (7.3.1). Written from the specification's tables; proofs/Agreement says where the device does the same.
 use Prim.Native.Nat.{ℕ, _+_, _-_, _*_, _/_, _%_, _^_, max}
+use mathlib.Core.Path.{_≡_}
 use mathlib.Core.Bool.{Bool, cond, not, _&&_, _||_}
-use mathlib.Core.List.{[], _∷_}
+use mathlib.Core.List.{List, [], _∷_}
 use lib.ListN.{set}
 use lib.Dec.{eqb, leb, ltb}
 use Rattle.word.specs.Place.{wordAt}
@@ -132,6 +133,20 @@ withNode h i n = hda (record { nodes = set (h .codec .nodes) i n }) (h .subsyste
 -- byte k of a word of four set to v
 abbrev pub withByte : ℕ → ℕ → ℕ → ℕ
 withByte word k v = word - word / 256 ^ k % 256 * 256 ^ k + v * 256 ^ k
+
+-- What HDA fixes of a codec's reset values; the rest is its maker's choice, and here the device's own. A declared amplifier is muted and at its offset (7.3.3.7; the lowest
+-- seven bits of parameters 0x0d and 0x12), and no node sends unsolicited responses (7.3.3.14).
+abbrev pub resetAmplifier : ℕ → ℕ → ℕ
+resetAmplifier node p = 0x80 + declared node p % 128
+
+abbrev pub silentNodes : List Node → Type 0
+silentNodes [] = Unit {0}
+silentNodes (n ∷ ns) = (byte n 8 / 128 ≡ 0) × silentNodes ns
+
+pub record ResetFixed (c : Codec) : Type 0 where
+  pub outputs : (byte (nodeAt c 2) 2 ≡ resetAmplifier 2 0x12) × (byte (nodeAt c 2) 3 ≡ resetAmplifier 2 0x12)
+  pub inputs : (byte (nodeAt c 4) 0 ≡ resetAmplifier 4 0x0d) × (byte (nodeAt c 4) 1 ≡ resetAmplifier 4 0x0d)
+  pub unsolicited : silentNodes (c .nodes)
 
 -- function reset (7.3.3.33): every record to its reset values, a pin's configuration default excepted (7.3.3.31)
 abbrev pub keepDefault : Node → Node → Node
