@@ -1,3 +1,2 @@
--- The calls' ways out; facts for callers.
+-- The calls' ways out.
 pub mod Outcomes
-pub mod Facts

@@ -1,7 +1,7 @@
 -- The book computes. Assumes nothing.
 use mathlib.Core.Path.{_≡_, refl}
 use mathlib.Core.Bool.{true, false}
-use mathlib.Core.List.{List, [], _∷_}
+use mathlib.Core.List.{[], _∷_}
 use Rattle.book.specs.Book.{book, reset, restored, moved, updated, failed, made, note, notes}
 
 -- two flagged ends, of which the latency leaves one pending; a transfer that fails adds nothing

@@ -30,7 +30,7 @@ use Rattle.host.proofs.Checks.{valid-queue}
 use Rattle.turn.specs.declared.Setup.{Setup}
 use Rattle.turn.specs.declared.Engine.{Engine}
 use Rattle.turn.specs.Setups.{setupOf}
-use Rattle.turn.specs.Engines.{Work, workOf, engine, stoppedOf, movedOn, Updated, updateOut, updatedOf, withUpdated, framesOf, transferredOf, failedOf, transferAt, settledOf, roundOf, again, roundsOf, accruedOf, dueOf, timedOf, servedOf}
+use Rattle.turn.specs.Engines.{Work, workOf, engine, stoppedOf, movedOn, Updated, updatedOf, withUpdated, framesOf, transferredOf, transferAt, settledOf, roundOf, again, roundsOf, accruedOf, dueOf, timedOf, servedOf}
 use Rattle.turn.specs.Turns.{openStreamOf, engineOf, Turn, formattedOf}
 use Rattle.turn.proofs.Facts.{frames-few, publish-by, transfer-queued}
 use Rattle.turn.proofs.Validity.{open-stream-valid}

@@ -6,6 +6,7 @@ use mathlib.Core.List.{List}
 use native.Mathlib.Omega.{arith}
 use lib.ListN.{length}
 use Rattle.word.specs.Parts.{partOf}
+use Rattle.word.proofs.Each.{each-keeps-until}
 use Rattle.word.proofs.Parts.{length-with-part}
 use Rattle.clock.proofs.Theorems.{advance-fraction}
 use Rattle.stream.specs.Box.{streams}
@@ -22,7 +23,6 @@ use Rattle.device.proofs.Facts.{with-stream-valid}
 use Rattle.settle.specs.Settle.{ports}
 use Rattle.serve.specs.Serve.{runs, Turns, turnsOf, takenOf, turnAt, goesOn, serveOf}
 use Rattle.serve.proofs.Turns.{length-part}
-use Rattle.advance.proofs.Facts.{each-keeps}
 use Rattle.advance.specs.Advance.{tickedOf, numberOf, afterCommands, advanceStep, advanceOf}
 use Rattle.calls.proofs.Registers.{file-store}
 use Rattle.calls.proofs.Turns.{turn-file}
@@ -77,7 +77,7 @@ module _ (nanos : ℕ) where
 
   serve-stands : (x : Machine) → Stands x → Served (serveOf nanos x)
   unfolding serveOf
-  serve-stands x s = each-keeps Served goesOn (turnAt nanos) streams turn-stands streams 0 (turnsOf false x) (omega arith) s
+  serve-stands x s = each-keeps-until Served goesOn (turnAt nanos) streams turn-stands streams 0 (turnsOf false x) (omega arith) s
 
   after-leaves : (x : Machine) → Stands x → Leaves (afterCommands nanos x)
   unfolding afterCommands

@@ -40,12 +40,6 @@ pub fn read_in(config: &[u8], register: u64) -> u32
     value
 }
 
-pub fn read(config: &Config, register: u64) -> u32
-    ensures { λ r. ⌜ r ≡ readOf (now (config .entry)) register ⌝ }
-{
-    read_in(config, register)
-}
-
 // Whether a write replaces the byte at `a`.
 fn replaces(a: usize) -> bool
     ensures { λ r. ⌜ r ≡ replaced a ⌝ }

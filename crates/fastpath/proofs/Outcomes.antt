@@ -1,20 +1,18 @@
 -- The ways out of a try: left alone, or all of the call. Assumes nothing.
 use Prim.Native.Nat.{ℕ, _+_, _*_, _^_, _≤_, _<_}
 use mathlib.Core.Path.{_≡_, refl, sym, ap, _∙_}
-use mathlib.Core.Bool.{true, false, _&&_}
+use mathlib.Core.Bool.{true, false}
 use mathlib.Core.List.{List}
 use mathlib.Core.Logic.{_≢_}
 use native.Mathlib.Omega.{arith}
 use borrow.Author.Tests.{eq-eqb, ne-eqb, lt-ltb, le-ltb}
-use lib.Dec.{eqb}
 use Rattle.rings.specs.declared.Link.{Link}
-use Rattle.registers.specs.Writes.{alignOf}
 use Rattle.bus.specs.Bus.{Front, frontOf, bytesOf}
 use Rattle.bus.proofs.Facts.{responses-fall}
 use Rattle.configuration.specs.Configuration as pci
 use Rattle.host.specs.declared.Host.{Host}
 use Rattle.device.specs.declared.Hda.{Hda}
-use Rattle.device.specs.Machines.{Machine, machine, checkMachine, answerOf, finishOf, checked}
+use Rattle.device.specs.Machines.{Machine, machine, checkMachine, answerOf, finishOf}
 use Rattle.settle.specs.Settle.{ports}
 use Rattle.write.specs.Writes.{writtenOf, tailedOf, writeStep, writeOf}
 use Rattle.write.proofs.Checked.{few}

@@ -1,6 +1,6 @@
 -- What a caller learns from a try: left alone, nothing has changed; else all of the call is done, and host end and lent spaces stay. Assumes nothing.
 use Prim.Native.Nat.{ℕ, _+_, _*_, _^_}
-use mathlib.Core.Path.{_≡_, refl, sym, ap, _∙_}
+use mathlib.Core.Path.{_≡_, sym, ap, _∙_}
 use mathlib.Core.Bool.{Bool, true, false, cond, true≢false, _&&_}
 use mathlib.Core.List.{List}
 use lib.Dec.{eqb, ltb}
@@ -9,7 +9,6 @@ use Rattle.device.specs.Machines.{Machine, Done, checkMachine, answerOf, finish
 use Rattle.settle.specs.Settle.{ports}
 use Rattle.write.specs.Writes.{writtenOf, writeStep, writeOf}
 use Rattle.hda.specs.Calls.{configWriteStep, configWriteOf}
-use Rattle.fastpath.specs.declared.Quick.{Quick}
 use Rattle.fastpath.specs.Quick.{leftAlone, Tried, tried, carriedOut, quietOf, writeBy, configWriteBy}
 use Rattle.fastpath.proofs.Quiet.{quiet-tail}
 

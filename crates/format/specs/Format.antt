@@ -1,6 +1,6 @@
 -- The formats that this device takes (document 01, Format word; the Rust's `Hda::format`): of those that HDA describes, 16-bit stereo at a rate of its list.
 use Prim.Native.Nat.{ℕ, _/_, _%_}
-use mathlib.Core.Bool.{Bool, true, false, cond, _&&_, _||_}
+use mathlib.Core.Bool.{Bool, false, cond, _&&_, _||_}
 use mathlib.Core.List.{List, [], _∷_}
 use mathlib.Core.Option.{Option, none, some}
 use lib.Dec.{eqb}
@@ -44,7 +44,3 @@ numberOf (Rate r) = 0
 abbrev pub rateOf : Format → ℕ
 rateOf Unsupported = 0
 rateOf (Rate r) = r
-
--- bytes in a frame: two samples of 16 bits
-abbrev pub frameBytes : ℕ
-frameBytes = 4

@@ -9,9 +9,6 @@ pub enum Format {
     Rate(u32),
 }
 
-// Bytes in a frame: two samples of 16 bits.
-pub const FRAME_BYTES: usize = 4;
-
 // The format that a word describes (the Rust's `Hda::format`).
 pub fn decode(word: u16) -> Format
     ensures { λ r. ⌜ r ≡ formatOf word ⌝ }

@@ -26,7 +26,7 @@ descriptorAt g s = g .bdl / 128 * 128 + 16 * s .descriptor
 
 -- the bytes of a piece: what is left of the period, of the descriptor, and of the turn of the cyclic buffer
 abbrev pub sizeOf : Cyclic → Stream → ℕ → ℕ → ℕ
-sizeOf g s left length = min (min left (length - s .offset)) (g .cbl - s .submitted % g .cbl)
+sizeOf g s left bytes = min (min left (bytes - s .offset)) (g .cbl - s .submitted % g .cbl)
 
 -- how a piece of n bytes ends: a descriptor end is flagged where bit 0 of its flags is set, and a flagged end with 4,352 pending fails
 unfoldable pub endOf : Stream → Descriptor → ℕ → Plan

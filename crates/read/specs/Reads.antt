@@ -1,4 +1,4 @@
--- A guest's reads: registers, the second base address, configuration (the Rust's `BusDevice` and `PciDevice`). Each is behind the check of document 01,
+-- A guest's reads: registers, also by base address, and configuration (the Rust's `BusDevice` and `PciDevice`). Each is behind the check of document 01,
 -- "Numbers returned".
 use Prim.Native.Nat.{ℕ}
 use mathlib.Core.Bool.{cond}

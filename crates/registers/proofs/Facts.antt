@@ -2,7 +2,7 @@
 use Prim.Native.Nat.{ℕ, zero, suc, _+_, _-_, _/_, _%_, _<_, _≤_}
 use mathlib.Core.Path.{_≡_, refl, sym, ap, _∙_}
 use mathlib.Core.Bool.{Bool, true, false, cond, _||_}
-use mathlib.Core.List.{List, [], _∷_}
+use mathlib.Core.List.{List}
 use mathlib.Core.Logic.{_≢_}
 use native.Mathlib.Omega.{arith}
 use borrow.Author.Tests.{eqb-true}
@@ -12,7 +12,6 @@ use lib.ListN.{length, getD, set, replicate, length-set, length-replicate}
 use lib.Seq.{getD-set-other}
 use Rattle.word.specs.Value.{Bytes}
 use Rattle.word.specs.Place.{putAt, storeAt}
-use Rattle.word.specs.Each.{eachOf, always}
 use Rattle.word.proofs.Lists.{bytes-set, bytes-zeros}
 use Rattle.word.proofs.Each.{each-keeps}
 use Rattle.word.proofs.Put.{length-put, bytes-put}

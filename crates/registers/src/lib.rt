@@ -196,12 +196,6 @@ pub fn read_in(regs: &[u8], offset: u64, into: &mut [u8])
     }
 }
 
-pub fn read(regs: &Registers, offset: u64, into: &mut [u8])
-    ensures { λ _. ⌜ now (into .exit) ≡ readOf (now (regs .entry)) offset (length (now (into .entry))) ⌝ }
-{
-    read_in(regs, offset, into);
-}
-
 fn is_replaced(a: usize) -> bool
     ensures { λ r. ⌜ r ≡ replaced a ⌝ }
 {

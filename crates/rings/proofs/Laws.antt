@@ -16,7 +16,7 @@ use Rattle.codec.specs.declared.Outcome.{Outcome}
 use Rattle.codec.specs.declared.Reply.{Reply}
 use Rattle.codec.specs.declared.Reply.the-variants.{Nothing, Value}
 use Rattle.codec.specs.Codecs.{verbOf}
-use Rattle.registers.specs.Places.{corbbase, corbrp, corbwp, corbsize, rirbbase, rirbwp, rirbctl, rirbsts, byteAt, has, withBits, keepBits}
+use Rattle.registers.specs.Places.{corbbase, corbrp, corbwp, corbsize, rirbbase, rirbwp, rirbctl, rirbsts, byteAt, has, withBits}
 use Rattle.rings.specs.declared.Link.{Link}
 use Rattle.rings.specs.declared.Command.{Command}
 use Rattle.rings.specs.Rings.{Rings, ringsOf, linkOf, entriesOf, entryAt, countedOf, nextResponse, responseOf, answeredOf, currentOf, nextCommand, fetchOf, executedOf, fetchedOf, commandAs, haltedOf, fetchesOf, idleOf, runningOf, commandsOf}

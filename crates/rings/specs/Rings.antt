@@ -1,5 +1,5 @@
 -- The command ring (CORB) and the response ring (RIRB): document 01, "Command rings"; the Rust's `commands` and `response`.
-use Prim.Native.Nat.{ℕ, zero, suc, _+_, _*_, _/_, _%_, _≤_}
+use Prim.Native.Nat.{ℕ, zero, suc, _+_, _*_, _/_, _%_}
 use mathlib.Core.Bool.{Bool, true, false, cond, not, _&&_}
 use mathlib.Core.List.{List, _++_}
 use lib.ListN.{replicate}

@@ -22,12 +22,23 @@ module _ {ℓ} {A : Type ℓ} (on : A → Bool) (f : ℕ → A → A) (count i :
   each-end zero x hn h = refl
   each-end (suc k) x hn h = absurd (omega arith)
 
--- what each turn of a loop over numbers keeps, the loop keeps
+-- what each turn of a loop over numbers keeps, the loop keeps, wherever it ends
+by-further : {A : Type 0} (P : A → Type 0) (b : Bool) (y : A) (rest : A → A) → P y → P (rest y) → P (further b y rest)
+by-further P true y rest p q = q
+by-further P false y rest p q = p
+
+pub each-keeps-until : {A : Type 0} (P : A → Type 0) (on : A → Bool) (f : ℕ → A → A) (count : ℕ) → ((i : ℕ) (x : A) → i < count → P x → P (f i x))
+    → (n i : ℕ) (x : A) → i + n ≡ count → P x → P (eachOf on f n i x)
+unfolding eachOf
+each-keeps-until P on f count keep zero i x e p = p
+each-keeps-until P on f count keep (suc n) i x e p =
+    let h = keep i x (omega arith) p in
+    by-further P (on (f i x)) (f i x) (eachOf on f n (i + 1)) h (each-keeps-until P on f count keep n (i + 1) (f i x) (omega arith) h)
+
+-- and so does one with no test
 pub each-keeps : {A : Type 0} (P : A → Type 0) (f : ℕ → A → A) (count : ℕ) → ((i : ℕ) (x : A) → i < count → P x → P (f i x))
     → (n i : ℕ) (x : A) → i + n ≡ count → P x → P (eachOf always f n i x)
-unfolding eachOf
-each-keeps P f count keep zero i x e p = p
-each-keeps P f count keep (suc n) i x e p = each-keeps P f count keep n (i + 1) (f i x) (omega arith) (keep i x (omega arith) p)
+each-keeps P f count = each-keeps-until P always f count
 
 -- equal turns make equal loops
 pub each-same : {A : Type 0} (f g : ℕ → A → A) → ((i : ℕ) (x : A) → f i x ≡ g i x) → (n i : ℕ) (x : A) → eachOf always f n i x ≡ eachOf always g n i x

@@ -7,11 +7,9 @@ use native.Mathlib.Numerals.{add-one}
 use native.Mathlib.Nat.{add-comm, zero-add}
 use lib.ListN.{length, take, drop, getD, set, length-drop, take-append-drop}
 use lib.Seq.{drop-cons, take-suc, set-at, getD-drop, getD-append-add, length-take-le}
-use Rattle.word.specs.Value.{Bytes}
 use Rattle.word.specs.Place.{putAt}
 use Rattle.word.specs.Shift.{shiftOf}
-use Rattle.word.proofs.Lists.{bytes-take, bytes-drop}
-use Rattle.word.proofs.Put.{length-put, bytes-put, put-there, put-after}
+use Rattle.word.proofs.Put.{length-put, put-there, put-after}
 
 -- from the front on, nothing moves
 pub shift-none : (count : ℕ) (l : List ℕ) → shiftOf 0 count l ≡ l
@@ -36,10 +34,6 @@ module _ (from count : ℕ) (l : List ℕ) (fits : from + count ≤ length l) wh
 
   pub length-shift : length (shiftOf from count l) ≡ length l
   length-shift = ap length shift-put ∙ length-put 0 moved l room
-
-  pub bytes-shift : Bytes l → Bytes (shiftOf from count l)
-  unfolding moved
-  bytes-shift h = rw shift-put (bytes-put 0 moved l room (bytes-take count (drop from l) (bytes-drop from l h)) h)
 
   -- the bytes from `from` on stand at the front
   pub shift-there : take count (shiftOf from count l) ≡ take count (drop from l)

@@ -1,5 +1,4 @@
 -- `written` meets its contract: the bytes, then the alignment. Assumes nothing.
-use mathlib.Core.Path.{sym}
 use borrow.Author.Needs.{needs}
 use Rattle.fastpath.proofs.written.Statement.{statement}
 use Rattle.fastpath.proofs.written.Tie as tie
