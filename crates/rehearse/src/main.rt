@@ -63,9 +63,6 @@ fn print(tally: Tally) {
     if tally.same {
         io::write_all(STDOUT_FILENO, b" sequences: all as recorded\n");
     } else {
-        io::write_all(
-            STDOUT_FILENO,
-            b" sequences as recorded, then one that differs\n",
-        );
+        io::write_all(STDOUT_FILENO, b" sequences: the last call differs\n");
     }
 }
