@@ -3,7 +3,7 @@ mod operations;
 mod sides;
 
 use bench::{Times, by_turns, cpu_time, median};
-use operations::{Command, ConfigRead, ConfigWrite, Idle, Operation, Period, Pieces, Read, Restore, Save, Write};
+use operations::{Command, ConfigRead, ConfigWrite, Frames, Idle, Operation, Period, Pieces, Read, Restore, Save, Write};
 use sides::{Port, Rust, Side};
 use std::hint::black_box;
 
@@ -25,7 +25,7 @@ fn main() {
         }
     }
     row(clock, "a period of 256 flagged pieces, 3,841 pending", Some(1.0), Pieces);
-    row(clock, "register read, 4 bytes", Some(1.0 / 3.0), Read);
+    row(clock, "register read, 4 bytes", Some(1.0 / 3.0), Read { pending: 0 });
     row(clock, "register write, 4 bytes", Some(1.0 / 8.0), Write);
     row(clock, "configuration read", Some(1.0 / 8.0), ConfigRead);
     row(clock, "configuration write, 1 byte", Some(1.0 / 8.0), ConfigWrite);
@@ -35,6 +35,25 @@ fn main() {
     row(clock, "save, 1,000 pending", Some(1.0 / 1.5), Save { pending: 1000 });
     row(clock, "restore, none pending", Some(1.0 / 3.0), Restore { pending: 0 });
     row(clock, "restore, 1,000 pending", Some(1.0 / 3.0), Restore { pending: 1000 });
+    println!();
+    growth(clock);
+}
+
+/// How the cost grows with frames, pieces and pending positions.
+fn growth(clock: f64) {
+    println!("| Call | Rust, ns | Port, ns | Rust / port | At least |");
+    println!("|---|---|---|---|---|");
+    for frames in [16, 64, 256, 512] {
+        row(clock, &format!("{frames} frames, playback, unity"), None, Frames { frames, pieces: 1 });
+    }
+    for pieces in [1, 4, 16, 64] {
+        row(clock, &format!("256 frames in {pieces} flagged pieces"), None, Frames { frames: 256, pieces });
+    }
+    for pending in [256, 1024, 3840] {
+        row(clock, &format!("register read, {pending} pending"), None, Read { pending });
+        row(clock, &format!("save, {pending} pending"), None, Save { pending });
+        row(clock, &format!("restore, {pending} pending"), None, Restore { pending });
+    }
 }
 
 /// Nanoseconds between two looks at the clock with nothing in between.

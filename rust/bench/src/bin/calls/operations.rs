@@ -134,13 +134,41 @@ impl Operation for Pieces {
     }
 }
 
-pub struct Read;
+/// An advance that moves so many frames, at most 512, of a connected playback at unity, in so many pieces for each period of 256.
+pub struct Frames {
+    pub frames: usize,
+    pub pieces: usize,
+}
+
+impl Operation for Frames {
+    fn set_up(&self, side: &mut impl Side) {
+        wake(side);
+        connect(side, false, 0x4a);
+        start(side, false, 4 * self.pieces.min(64), PERIOD / self.pieces);
+    }
+    fn prepare(&self, side: &mut impl Side) {
+        side.pull(&mut [0; 2 * PERIOD]);
+    }
+    fn run(&self, side: &mut impl Side, turn: usize) -> usize {
+        let due = |turn: usize| (turn * self.frames) as u64 * 1_000_000_000 / 48_000;
+        side.advance(due(turn + 1) - due(turn));
+        0
+    }
+}
+
+pub struct Read {
+    /// As for [`Save`].
+    pub pending: usize,
+}
 
 impl Operation for Read {
     const TIMES: usize = 64;
 
     fn set_up(&self, side: &mut impl Side) {
-        wake(side);
+        hold(side, self.pending);
+    }
+    fn pending(&self) -> Option<usize> {
+        Some(self.pending)
     }
     fn run(&self, side: &mut impl Side, _: usize) -> usize {
         let mut bytes = [0; 4];
