@@ -1,2 +1,3 @@
 pub mod Hda
 pub mod Exceptions
+pub mod Steps
