@@ -24,7 +24,7 @@ use Rattle.rings.specs.Rings.{Rings, withRegs, entriesOf, entryAt, answeredOf, 
 use Rattle.rings_hda.specs.Hda as hda
 use Rattle.rings_hda.specs.Hda.{Next, Rest, bit, State, Fetch, fetched}
 use Rattle.rings_hda.specs.Exceptions.{Exception, None, IdleUnseen, isNone, commandException, storeException, idleException}
-use Rattle.rings_hda.specs.Steps.{ringState, ringsFrom, deviceCommand, deviceFetch, afterFetch, halting, repliedBy, followed, continued, runOf, hdaFetches, File, Regular}
+use Rattle.rings_hda.specs.Steps.{ringState, ringsFrom, deviceCommand, deviceFetch, afterFetch, halting, Run, repliedBy, followed, continued, runOf, landing, hdaFetches, File, Regular}
 use Rattle.rings.proofs.Laws.{fetches-end, fetches-rest, fetches-halt, fetches-more, commands-stopped, commands-done}
 use Rattle.rings.proofs.Facts.{Outside, byte-before, word-before, answer-outside, response-codec}
 use Rattle.rings_hda.proofs.Agreement.{run-bit, reset-bit, dma-agrees, entries-some, entries-few, is-none, Inside, none-inside, inside-none, command-agrees, command-silent, read-there, read-word, fetch-agrees, fetch-follows, response-exact, store-silent, idle-agrees, halt-status}
@@ -132,15 +132,15 @@ nothing-said b e = absurd (false≢true (ap said e))
     said (some c) = true
 
 -- the codec's answer, where HDA says all of it
-answer-says : (config : List ℕ) (z : Rings) → hda.dmaOf config (z .regs) ≡ true → (c : Codec) (reply : Reply) (rest : Rings → Option Rings) (y : Rings)
-    → followed c (repliedBy config (ringState z) reply) rest ≡ some y → rest (answeredOf z c reply) ≡ some y
+answer-says : (config : List ℕ) (z : Rings) → hda.dmaOf config (z .regs) ≡ true → (c : Codec) (reply : Reply) (rest : Rings → Run) (y : Rings)
+    → landing (followed c (repliedBy config (ringState z) reply) rest) ≡ some y → landing (rest (answeredOf z c reply)) ≡ some y
 answer-says config z dma c Nothing rest y = λ h. h
 answer-says config z dma c (Value v) rest y =
     let q : Rings = answeredOf z c Nothing in
     by-test (isNone (storeException config (ringState q))) (λ t.
     rw (response-exact q 0 false v config dma (is-none _ t)) (λ h.
     let same : ringsFrom c (ringState (responseOf q v 0)) ≡ responseOf q v 0 = ap (λ (d : Codec). ringsFrom d (ringState (responseOf q v 0))) (sym (response-codec q v 0)) in
-    ap rest (sym same) ∙ h)) (λ t.
+    ap (λ (d : Rings). landing (rest d)) (sym same) ∙ h)) (λ t.
     rw (store-silent q 0 false v config t) (nothing-said y))
 
 -- what comes next, by the entry that the device has
@@ -157,9 +157,10 @@ moved-dma : (config : List ℕ) (x : Rings) → Regular config (x .regs) → hda
 unfolding hda.dmaOf
 moved-dma config x r = rw (byte-elsewhere 2 corbrp (nextCommand (x .regs)) (x .regs) (omega (arith, r .size)) 8 (inl (omega arith))) (r .dma)
 
--- Where HDA says all of a run, it is the device's: every fetch, every response with its entry in memory, both pointers, the count and the status.
+-- Where HDA says all of a run, but for the run bit at a memory error, it is the device's: every fetch, every response with its entry in memory, both pointers,
+-- the count and the status bits.
 pub run-says : (fuel : ℕ) (config : List ℕ) (x : Rings) → File (x .regs) → hda.dmaOf config (x .regs) ≡ true → bit 2 (getD (x .regs) 0x4c 0) ≡ true → (y : Rings)
-    → runOf fuel config x ≡ some y → fetchesOf fuel x ≡ y
+    → landing (runOf fuel config x) ≡ some y → fetchesOf fuel x ≡ y
 unfolding runOf
 run-says zero config x f dma runs y = λ h. fetches-end x 0 (omega arith) ∙ same-rings x y h
 run-says (suc fuel) config x f dma runs y =
@@ -177,7 +178,7 @@ run-says (suc fuel) config x f dma runs y =
     rw (← read-there x, m, ← read-word x m, fetches-more x e (suc fuel) (omega arith) m, less) (λ h.
     run-says fuel config (executedOf x w) (fileOf next) (next .dma) (next .runs) y
     (answer-says config (withRegs x (storeAt 2 corbrp (nextCommand (x .regs)) (x .regs))) (moved-dma config x r) (o .codec) (o .reply) (runOf fuel config) y h))) λ m.
-    rw (← read-there x, m) (nothing-said y)))) λ t.
+    rw (← read-there x, m, fetches-halt x e (suc fuel) (omega arith) m) (same-rings (haltedOf x) y)))) λ t.
     rw (fetch-unsaid config x t) (nothing-said y)
 
 -- ---- and it takes every command that waits
@@ -242,7 +243,7 @@ module _ (config : List ℕ) where
 
 -- a run that HDA says begins with a ring that has no exception
 run-regular : (fuel : ℕ) (config : List ℕ) (x : Rings) → 0 < fuel → File (x .regs) → hda.dmaOf config (x .regs) ≡ true → bit 2 (getD (x .regs) 0x4c 0) ≡ true → (y : Rings)
-    → runOf fuel config x ≡ some y → Regular config (x .regs)
+    → landing (runOf fuel config x) ≡ some y → Regular config (x .regs)
 unfolding runOf
 run-regular zero config x h f dma runs y = absurd (omega arith)
 run-regular (suc fuel) config x h f dma runs y =
@@ -251,7 +252,7 @@ run-regular (suc fuel) config x h f dma runs y =
     (λ t. rw (fetch-unsaid config x t) (nothing-said y))
 
 -- one of a ring that rests is none
-run-off : (fuel : ℕ) (config : List ℕ) (x : Rings) → hda.nextCommand config (x .regs) ≡ Rest → (y : Rings) → runOf fuel config x ≡ some y → x ≡ y
+run-off : (fuel : ℕ) (config : List ℕ) (x : Rings) → hda.nextCommand config (x .regs) ≡ Rest → (y : Rings) → landing (runOf fuel config x) ≡ some y → x ≡ y
 unfolding runOf hda.fetchOf
 run-off zero config x off y = same-rings x y
 run-off (suc fuel) config x off y = rw off (same-rings x y)
@@ -290,9 +291,9 @@ module _ (config : List ℕ) (x : Rings) where
       stops true false c e = refl
       stops false b c e = refl
 
-  -- Where HDA says all of a call, the commands that wait and the frame without a response behind them, the device does just that, on every ring state: the ring may
-  -- run or not, with DMA on or off.
-  pub commands-say : File (x .regs) → idleException config (ringState x) ≡ None → (y : Rings) → runOf (entriesOf (byteAt (x .regs) corbsize)) config x ≡ some y
+  -- Where HDA says all of a call, the commands that wait and the frame without a response behind them, but for the run bit at a memory error, the device does just
+  -- that, on every ring state: the ring may run or not, with DMA on or off.
+  pub commands-say : File (x .regs) → idleException config (ringState x) ≡ None → (y : Rings) → landing (runOf (entriesOf (byteAt (x .regs) corbsize)) config x) ≡ some y
       → commandsOf (dmaOf config (x .regs)) x ≡ ringsFrom (y .link .codec) (hda.countOf true (ringState y))
   unfolding idleException
   commands-say f =

@@ -7,13 +7,14 @@ use mathlib.Core.Option.{Option, none, some}
 use lib.ListN.{set, replicate}
 use Rattle.word.specs.Place.{wordAt, storeAt, putAt}
 use Rattle.memory.specs.Memory.{readOf, writeOf}
-use Rattle.codec.specs.Codecs.{freshOf}
-use Rattle.registers.specs.Places.{gctl, corbwp, corbrp, corbctl, corbsize, rirbwp, rirbctl, rirbsts, rirbsize, byteAt, dmaOf}
-use Rattle.rings.specs.Rings.{Rings, ringsOf, linkOf, responseOf, commandsOf}
+use Rattle.node.specs.Parameters.{parameterOf}
+use Rattle.codec.specs.Codecs.{freshOf, verbOf}
+use Rattle.registers.specs.Places.{gctl, corbwp, corbrp, corbctl, corbsize, rirbbase, rirbwp, rirbctl, rirbsts, rirbsize, byteAt, dmaOf}
+use Rattle.rings.specs.Rings.{Rings, ringsOf, linkOf, responseOf, fetchesOf, commandsOf}
 use Rattle.rings_hda.specs.Hda as hda
 use Rattle.rings_hda.specs.Hda.{Next, Rest, Use, Open, bit, State, Fetch, Failed}
 use Rattle.rings_hda.specs.Exceptions.{Exception, None, SizeReserved, PointerOutside, ResetHeld, MemoryError, ResponseOff, ResponseOutside, IdleUnseen, commandException, fetchException, responseException, storeException, idleException}
-use Rattle.rings_hda.specs.Steps.{ringState, deviceCommand, deviceFetch, deviceResponse, stopped}
+use Rattle.rings_hda.specs.Steps.{ringState, deviceCommand, deviceFetch, deviceResponse, stopped, runOf, landing}
 
 -- bus master on, and registers out of reset
 abbrev master : List ℕ
@@ -106,3 +107,13 @@ pub bus-master : (hda.nextCommand master (set runs corbwp 1) ≡ Use 1 4) × (hd
     × (fetchException master (ringState (ringsOf (set runs corbwp 1) (linkOf freshOf 0) (replicate 8 0))) ≡ None)
 unfolding fetchException commandException hda.nextCommand hda.dmaOf wordAt
 bus-master = (refl, refl, refl)
+
+-- ---- a run of which HDA says all
+-- entry 1 of the command ring asks the root node for its vendor; the answer goes to entry 1 of the response ring, which stands at 128
+abbrev asking : Rings
+asking = ringsOf (set (set (set runs corbwp 1) rirbctl 2) rirbbase 128) (linkOf freshOf 0) (storeAt 4 4 0x000f0000 (replicate 144 0))
+
+pub one-command : (landing (runOf 2 master asking) ≡ some (fetchesOf 2 asking)) × (wordAt 4 136 (fetchesOf 2 asking .memory) ≡ 0x1af40022)
+    × (wordAt 2 corbrp (fetchesOf 2 asking .regs) ≡ 1) × (wordAt 2 rirbwp (fetchesOf 2 asking .regs) ≡ 1)
+unfolding runOf fetchesOf hda.fetchOf hda.responseOf hda.nextCommand hda.nextResponse hda.interruptOf hda.dmaOf responseOf readOf writeOf putAt storeAt wordAt verbOf parameterOf
+one-command = (refl, refl, refl, refl)

@@ -74,25 +74,36 @@ losing s none = hda.overrunOf s
 losing s (some t) = t
 
 -- ---- runs
--- As HDA has them, with the device's codec (address 0) behind the link: what comes next is asked anew after each command, until none does. Nothing where HDA says
--- nothing.
+-- what HDA says of a run: it ends here, with none to fetch; a memory error ends it here, all but the run bit; or nothing
+pub data Run : Type 0 where
+  Ended : Rings → Run
+  Errored : Rings → Run
+  Silent : Run
+
+-- As HDA has them, with the device's codec (address 0) behind the link: what comes next is asked anew after each command, until none does.
 abbrev pub repliedBy : List ℕ → State → Reply → Option State
 repliedBy config s Nothing = some s
 repliedBy config s (Value v) = hda.responseOf config s 0 false v
 
-abbrev pub followed : Codec → Option State → (Rings → Option Rings) → Option Rings
-followed codec none rest = none
+abbrev pub followed : Codec → Option State → (Rings → Run) → Run
+followed codec none rest = Silent
 followed codec (some s) rest = rest (ringsFrom codec s)
 
-abbrev pub continued : List ℕ → Rings → Fetch → (Rings → Option Rings) → Option Rings
-continued config x Resting rest = some x
+abbrev pub continued : List ℕ → Rings → Fetch → (Rings → Run) → Run
+continued config x Resting rest = Ended x
 continued config x (Fetched w s) rest = let o = verbOf (x .link .codec) w in followed (o .codec) (repliedBy config s (o .reply)) rest
-continued config x (Failed s) rest = none
-continued config x Unsaid rest = none
+continued config x (Failed s) rest = Errored (ringsFrom (x .link .codec) s)
+continued config x Unsaid rest = Silent
 
-unfoldable pub runOf : ℕ → List ℕ → Rings → Option Rings
-runOf zero config x = some x
+unfoldable pub runOf : ℕ → List ℕ → Rings → Run
+runOf zero config x = Ended x
 runOf (suc fuel) config x = continued config x (hda.fetchOf config (ringState x)) (runOf fuel config)
+
+-- where the device is behind such a run: at `MemoryError` the run bit is cleared too
+abbrev pub landing : Run → Option Rings
+landing (Ended y) = some y
+landing (Errored y) = some (ringsFrom (y .link .codec) (stopped (ringState y)))
+landing Silent = none
 
 -- The commands as HDA names them, whatever becomes of the responses, with the device's stop at a memory error.
 unfoldable pub hdaFetches : ℕ → List ℕ → Rings → Rings
