@@ -1,15 +1,21 @@
 -- `advance`: the clock, the commands, every stream's turn in order, the interrupt (document 01, "`advance`, `write`, configuration, snapshot" and "Numbers
 -- returned", 1; the Rust's `Hda::advance`).
 use Prim.Native.Nat.{ℕ}
-use mathlib.Core.Bool.{Bool, cond, not, _||_}
+use mathlib.Core.Bool.{Bool, false, cond, not, _||_}
+use mathlib.Core.List.{List}
 use Rattle.word.specs.Place.{storeAt}
 use Rattle.clock.specs.declared.Clock.{Clock}
 use Rattle.clock.specs.Clock as clock
 use Rattle.registers.specs.Places.{gctl, walclk, byteAt, has, dmaOf}
+use Rattle.pci.specs.declared.Msi.{Msi}
+use Rattle.host.specs.declared.Host.{Host}
 use Rattle.device.specs.declared.Hda.{Hda}
+use Rattle.device.specs.declared.Answer.{Answer}
 use Rattle.device.specs.Devices.{withRegs, withClock}
 use Rattle.device.specs.Machines.{Machine, Done, unchanged, checked, finished, withCommanded, commandedOf}
-use Rattle.serve.specs.Serve.{Turns, serveOf}
+use Rattle.record.specs.Devices.{deviceBytes}
+use Rattle.serve.specs.Serve.{Turns, turnsOf, serveOf}
+use Rattle.advance.specs.declared.Advanced.{Advanced}
 
 -- the wall clock, and register 0x30, which shows it
 abbrev pub ticked : Hda → Clock → Hda
@@ -29,11 +35,40 @@ servedOf w = finished (numberOf (w .refused)) (w .machine)
 unfoldable pub afterCommands : ℕ → Machine → Done
 afterCommands nanos x = cond (dmaOf (x .hda .config) (x .hda .regs)) (servedOf (serveOf nanos x)) (finished 0 x)
 
--- nothing happens while the device is paused or in reset
+-- paused, or in reset
+abbrev pub stillOf : Hda → Bool
+stillOf d = d .paused || not (has 1 (byteAt (d .regs) gctl))
+
+-- nothing happens then
 unfoldable pub advanceStep : ℕ → Machine → Done
 advanceStep nanos x =
-    cond (x .hda .paused || not (has 1 (byteAt (x .hda .regs) gctl))) (unchanged 0 x)
+    cond (stillOf (x .hda)) (unchanged 0 x)
     (afterCommands nanos (withCommanded x (x .host) (commandedOf (tickedOf nanos (x .hda)) (x .memory))))
 
 unfoldable pub advanceOf : ℕ → Machine → Done
 advanceOf nanos x = checked (advanceStep nanos) x
+
+-- ---- on a device in its record
+-- what the call leaves: its answer, the record, the lent spaces and guest memory
+pub record Left : Type 0 where
+  pub advanced : Advanced
+  pub device : List ℕ
+  pub lists : List ℕ
+  pub queues : List ℕ
+  pub memory : List ℕ
+
+abbrev pub leftOut : Advanced → List ℕ → List ℕ → List ℕ → List ℕ → Left
+leftOut a device lists queues memory = record { advanced = a; device = device; lists = lists; queues = queues; memory = memory }
+
+abbrev pub advanced : ℕ → Bool → Msi → Host → Advanced
+advanced number level msi h = record { number = number; level = level; msi = msi; host = h }
+
+abbrev pub advancedAs : Answer → Advanced
+advancedAs a = advanced (a .number) (a .level) (a .msi) (a .host)
+
+abbrev pub leftBy : Done → Left
+leftBy z = leftOut (advancedAs (z .answer)) (deviceBytes (z .answer .hda)) (z .lists) (z .queues) (z .memory)
+
+-- the streams' turns where DMA may run
+abbrev pub turnsWhere : Bool → ℕ → Machine → Turns
+turnsWhere dma nanos x = cond dma (serveOf nanos x) (turnsOf false x)

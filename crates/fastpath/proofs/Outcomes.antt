@@ -12,14 +12,16 @@ use Rattle.bus.proofs.Facts.{responses-fall}
 use Rattle.configuration.specs.Configuration as pci
 use Rattle.host.specs.declared.Host.{Host}
 use Rattle.device.specs.declared.Hda.{Hda}
+use Rattle.device.specs.Devices.{withRegs, withLink}
 use Rattle.device.specs.Machines.{Machine, machine, checkMachine, answerOf, finishOf}
 use Rattle.settle.specs.Settle.{ports}
 use Rattle.write.specs.Writes.{writtenOf, tailedOf, writeStep, writeOf}
 use Rattle.write.proofs.Checked.{few}
 use Rattle.hda.specs.Calls.{configured, configWriteStep, configWriteOf}
-use Rattle.record.specs.Loads.{blockAt, linkAt, deviceAt}
+use Rattle.record.specs.Loads.{blockAt, linkAt, deviceAt, Holds}
+use Rattle.in_place.specs.Steps.{partsOf, endOf}
 use Rattle.fastpath.specs.declared.Quick.{Quick}
-use Rattle.fastpath.specs.Quick.{leftAlone, Tried, tried, carriedOut, quietOf, writeBy, configWriteBy, alignedOf, partsOf, Concluded, concluded, concludedOf}
+use Rattle.fastpath.specs.Quick.{leftAlone, Tried, tried, carriedOut, quietOf, writeBy, configWriteBy, alignedOf, Concluded, concluded, concludedOf}
 use Rattle.fastpath.proofs.Quiet.{quiet-tail}
 
 -- what the commands and the interrupt leave is all of the call
@@ -27,8 +29,17 @@ abbrev triedOf : Concluded → Tried
 triedOf c = tried (c .quick) (c .device) (c .memory)
 
 tailed : (x : Machine) (d : Hda) → triedOf (concludedOf d (x .memory)) ≡ carriedOut (tailedOf x (ports d (x .host)))
-unfolding concludedOf finishOf answerOf
+unfolding concludedOf endOf finishOf answerOf
 tailed x d = refl
+
+-- parts of the device in a record
+link-of : (b : List ℕ) → linkAt b ≡ deviceAt b .link
+unfolding deviceAt
+link-of b = refl
+
+config-of : (b : List ℕ) → blockAt 6 b ≡ deviceAt b .config
+unfolding deviceAt
+config-of b = refl
 
 module _ (device lists queues memory : List ℕ) (host : Host) where
   abbrev at : Machine
@@ -65,19 +76,24 @@ module _ (device lists queues memory : List ℕ) (host : Host) where
         unfolding writeBy
         write-left t q eq = rw (eq, ← e, eq-eqb n 0 z, ← same-quiet, t)
 
-        parts : (config : List ℕ) → config ≡ blockAt 6 device → partsOf device config regs next ≡ writtenOf (deviceAt device) offset bytes
-        unfolding writtenOf deviceAt
-        parts config ec = rw ec (ap (λ (f : Front). partsOf device (blockAt 6 device) (f .regs) (f .link)) front)
+        -- `linked` is the record with the link that they left, `config` its configuration
+        module _ (linked : List ℕ) (held : Holds linked (withLink (deviceAt device) next)) where
+          pub linked-few : linkAt linked .responses ≤ 255
+          linked-few = let own : linkAt linked .responses ≡ next .responses = ap (λ (l : Link). l .responses) (link-of linked) ∙ ap (λ (d : Hda). d .link .responses) (held .same) in omega (arith, own, next-few)
 
-        pub write-done : quietOf old regs ≡ true → (config : List ℕ) → config ≡ blockAt 6 device → (q : Quick) (device₁ memory₁ config₁ regs₁ : List ℕ)
-            → concluded q device₁ memory₁ config₁ regs₁ ≡ concludedOf (partsOf device config regs next) memory
-            → tried q device₁ memory₁ ≡ writeBy offset bytes device at
-        unfolding writeBy writeOf writeStep
-        write-done t config ec q device₁ memory₁ config₁ regs₁ ez =
-            let d : Hda = writtenOf (deviceAt device) offset bytes in
-            let quiet : quietOf (deviceAt device .regs) (d .regs) ≡ true = sym same-quiet ∙ t in
-            rw (← e, eq-eqb n 0 z, quiet, quiet-tail (deviceAt device .regs) (ports d host) quiet)
-            (ap triedOf (ez ∙ ap (λ (y : Hda). concludedOf y memory) (parts config ec)) ∙ tailed at d)
+          parts : (config : List ℕ) → config ≡ blockAt 6 linked → partsOf linked config regs ≡ writtenOf (deviceAt device) offset bytes
+          unfolding writtenOf
+          parts config ec = rw (ec, config-of linked, held .same) (ap (λ (f : Front). withLink (withRegs (deviceAt device) (f .regs)) (f .link)) front)
+
+          pub write-done : quietOf old regs ≡ true → (config : List ℕ) → config ≡ blockAt 6 linked → (q : Quick) (device₁ memory₁ config₁ regs₁ : List ℕ)
+              → concluded q device₁ memory₁ config₁ regs₁ ≡ concludedOf (partsOf linked config regs) memory
+              → tried q device₁ memory₁ ≡ writeBy offset bytes device at
+          unfolding writeBy writeOf writeStep
+          write-done t config ec q device₁ memory₁ config₁ regs₁ ez =
+              let d : Hda = writtenOf (deviceAt device) offset bytes in
+              let quiet : quietOf (deviceAt device .regs) (d .regs) ≡ true = sym same-quiet ∙ t in
+              rw (← e, eq-eqb n 0 z, quiet, quiet-tail (deviceAt device .regs) (ports d host) quiet)
+              (ap triedOf (ez ∙ ap (λ (y : Hda). concludedOf y memory) (parts config ec)) ∙ tailed at d)
 
     module _ (register offset : ℕ) (bytes : List ℕ) where
       pub config-refused : n ≢ 0 → (q : Quick) → q ≡ leftAlone → tried q device memory ≡ configWriteBy register offset bytes device at
@@ -89,17 +105,16 @@ module _ (device lists queues memory : List ℕ) (host : Host) where
         unfolding configWriteBy
         config-past h q eq = rw (eq, ← e, eq-eqb n 0 z, le-ltb (4 * register + offset) (2 ^ 64) h)
 
-        module _ (link : Link) (el : link ≡ linkAt device) where
-          pub config-few : link .responses ≤ 255
-          unfolding deviceAt
-          config-few = rw el (few at n e z)
+        pub config-few : linkAt device .responses ≤ 255
+        unfolding deviceAt
+        config-few = few at n e z
 
-          pub config-done : 4 * register + offset < 2 ^ 64 → (old config regs : List ℕ) → old ≡ blockAt 6 device → config ≡ pci.writeOf old (4 * register + offset) bytes
-              → regs ≡ blockAt 262 device → (q : Quick) (device₁ memory₁ config₁ regs₁ : List ℕ)
-              → concluded q device₁ memory₁ config₁ regs₁ ≡ concludedOf (partsOf device config regs link) memory
-              → tried q device₁ memory₁ ≡ configWriteBy register offset bytes device at
-          unfolding configWriteBy configWriteOf configWriteStep deviceAt
-          config-done h old config regs eo ec er q device₁ memory₁ config₁ regs₁ ez =
-              let d : Hda = configured (deviceAt device) (4 * register + offset) bytes in
-              let whole : partsOf device config regs link ≡ d = rw (ec, eo, er, el) in
-              rw (← e, eq-eqb n 0 z, lt-ltb (4 * register + offset) (2 ^ 64) h) (ap triedOf (ez ∙ ap (λ (y : Hda). concludedOf y memory) whole) ∙ tailed at d)
+        pub config-done : 4 * register + offset < 2 ^ 64 → (old config regs : List ℕ) → old ≡ blockAt 6 device → config ≡ pci.writeOf old (4 * register + offset) bytes
+            → regs ≡ blockAt 262 device → (q : Quick) (device₁ memory₁ config₁ regs₁ : List ℕ)
+            → concluded q device₁ memory₁ config₁ regs₁ ≡ concludedOf (partsOf device config regs) memory
+            → tried q device₁ memory₁ ≡ configWriteBy register offset bytes device at
+        unfolding configWriteBy configWriteOf configWriteStep deviceAt
+        config-done h old config regs eo ec er q device₁ memory₁ config₁ regs₁ ez =
+            let d : Hda = configured (deviceAt device) (4 * register + offset) bytes in
+            let whole : partsOf device config regs ≡ d = rw (ec, eo, er) in
+            rw (← e, eq-eqb n 0 z, lt-ltb (4 * register + offset) (2 ^ 64) h) (ap triedOf (ez ∙ ap (λ (y : Hda). concludedOf y memory) whole) ∙ tailed at d)

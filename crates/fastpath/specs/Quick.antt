@@ -6,17 +6,15 @@ use lib.Dec.{eqb, ltb}
 use Rattle.stream.specs.Box.{streams}
 use Rattle.registers.specs.Places.{gctl, ctl, byteAt, has}
 use Rattle.registers.specs.Writes.{alignOf}
-use Rattle.rings.specs.declared.Link.{Link}
 use Rattle.bus.specs.Bus.{Front, frontOf}
 use Rattle.pci.specs.declared.Msi.{Msi}
 use Rattle.pci.specs.declared.Msi.the-variants.{None}
-use Rattle.pci.specs.Interrupts.{Update, updateOf, levelOf}
 use Rattle.device.specs.declared.Hda.{Hda}
-use Rattle.device.specs.Machines.{Machine, Done, checkMachine, Commanded, commandedOf, interrupted}
+use Rattle.device.specs.Machines.{Machine, Done, checkMachine, Commanded, commandedOf}
 use Rattle.write.specs.Writes.{writtenOf, writeOf}
 use Rattle.hda.specs.Calls.{configWriteOf}
-use Rattle.record.specs.Devices.{deviceBytes, replacedIn}
-use Rattle.record.specs.Loads.{deviceAt}
+use Rattle.record.specs.Devices.{deviceBytes}
+use Rattle.in_place.specs.Steps.{End, endOf}
 use Rattle.fastpath.specs.declared.Quick.{Quick}
 
 abbrev pub quick : Bool → Bool → Msi → Quick
@@ -66,10 +64,6 @@ configWriteBy register offset bytes device x =
 abbrev pub alignedOf : Front → Front
 alignedOf x = frontOf (alignOf (x .regs)) (x .link)
 
--- the device in a record with these parts
-abbrev pub partsOf : List ℕ → List ℕ → List ℕ → Link → Hda
-partsOf device config regs link = replacedIn (deviceAt device) config regs link (deviceAt device .asserted)
-
 -- the commands and the interrupt: what is answered, and the record, guest memory and both files after them
 pub record Concluded : Type 0 where
   pub quick : Quick
@@ -81,11 +75,11 @@ pub record Concluded : Type 0 where
 abbrev pub concluded : Quick → List ℕ → List ℕ → List ℕ → List ℕ → Concluded
 concluded q device memory config regs = record { quick = q; device = device; memory = memory; config = config; regs = regs }
 
-abbrev pub finishedBy : Hda → List ℕ → Update → Concluded
-finishedBy d memory u = concluded (quick true (levelOf (u .config) (u .regs)) (u .signal .msi)) (deviceBytes (interrupted d u)) memory (u .config) (u .regs)
+abbrev pub endedBy : List ℕ → End → Concluded
+endedBy memory e = concluded (quick true (e .ended .level) (e .ended .msi)) (e .device) memory (e .config) (e .regs)
 
 abbrev pub commandedBy : Commanded → Concluded
-commandedBy c = let d = c .hda in finishedBy d (c .memory) (updateOf (d .config) (d .regs) (d .asserted))
+commandedBy c = endedBy (c .memory) (endOf (c .hda))
 
 unfoldable pub concludedOf : Hda → List ℕ → Concluded
 concludedOf d memory = commandedBy (commandedOf d memory)

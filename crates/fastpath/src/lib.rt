@@ -14,8 +14,9 @@ ghost use Rattle.stream.specs.Box.{streams};
 ghost use Rattle.bus.specs.Bus.{frontOf, bytesOf};
 ghost use Rattle.device.specs.Machines.{machine};
 ghost use Rattle.record.specs.Layout.{deviceSize};
-ghost use Rattle.record.specs.Loads.{deviceAt, isDevice};
-ghost use Rattle.fastpath.specs.Quick.{staysOf, stayFrom, quietOf, leftAlone, tried, concluded, concludedOf, alignedOf, partsOf, writeBy, configWriteBy};
+ghost use Rattle.record.specs.Loads.{linkAt, deviceAt, isDevice};
+ghost use Rattle.in_place.specs.Steps.{partsOf};
+ghost use Rattle.fastpath.specs.Quick.{staysOf, stayFrom, quietOf, leftAlone, tried, concluded, concludedOf, alignedOf, writeBy, configWriteBy};
 
 // Whether a write was carried out, and then the INTx level that it leaves and its message.
 pub struct Quick {
@@ -81,25 +82,22 @@ fn written(regs: &mut Registers, link: Link, offset: u64, bytes: &[u8]) -> Link
     next
 }
 
-// The commands and the interrupt, and all of it into the record.
+// The commands and the interrupt, and the files into the record.
 fn conclude(
     device: &mut [u8],
     config: &mut Config,
     regs: &mut Registers,
-    link: Link,
     memory: &mut [u8],
 ) -> Quick
-    requires { ⌜ (length (now device) ≡ deviceSize) × (isDevice (now device) ≡ true) × (link .responses ≤ 255) ⌝ }
-    ensures { λ r. ⌜ concluded r (now (device .exit)) (now (memory .exit)) (now (config .exit)) (now (regs .exit)) ≡ concludedOf (partsOf (now (device .entry)) (now (config .entry)) (now (regs .entry)) link) (now (memory .entry)) ⌝ }
+    requires { ⌜ (length (now device) ≡ deviceSize) × (isDevice (now device) ≡ true) × (linkAt (now device) .responses ≤ 255) ⌝ }
+    ensures { λ r. ⌜ concluded r (now (device .exit)) (now (memory .exit)) (now (config .exit)) (now (regs .exit)) ≡ concludedOf (partsOf (now (device .entry)) (now (config .entry)) (now (regs .entry))) (now (memory .entry)) ⌝ }
 {
-    let dma = registers::dma_enabled(config, regs);
-    let next = rings::commands(dma, regs, link, memory);
-    let signal = pci::update_irq(config, regs, record::is_asserted(device));
-    record::replace(device, config, regs, next, signal.asserted);
-    let msi = signal.msi;
+    in_place::commands(device, config, regs, memory);
+    let ended = in_place::finish(device, config, regs);
+    let msi = ended.msi;
     Quick {
         done: true,
-        level: pci::level(config, regs),
+        level: ended.level,
         msi: msi,
     }
 }
@@ -126,8 +124,9 @@ pub fn write(
     if !is_quiet(&old, &regs) {
         return left_alone();
     }
+    record::replace_link(device, next);
     let mut config = record::load_block(device, 6);
-    conclude(device, &mut config, &mut regs, next, memory)
+    conclude(device, &mut config, &mut regs, memory)
 }
 
 // A write to the configuration, from byte `offset` of a register on.
@@ -157,11 +156,5 @@ pub fn config_write(
     let mut config = record::load_block(device, 6);
     configuration::write(&mut config, 4 * register + offset, bytes);
     let mut regs = record::load_block(device, 262);
-    conclude(
-        device,
-        &mut config,
-        &mut regs,
-        record::load_link(device),
-        memory,
-    )
+    conclude(device, &mut config, &mut regs, memory)
 }

@@ -17,11 +17,13 @@ use Rattle.hda.specs.Calls as hda
 use Rattle.record.specs.Layout.{deviceSize}
 use Rattle.record.specs.Devices.{deviceBytes}
 use Rattle.record.specs.Loads.{deviceAt}
+use Rattle.advance.specs.declared.Advanced.{Advanced}
+use Rattle.advance.specs.Advance.{Left, leftOut, leftBy, advanceOf}
 use Rattle.fastpath.specs.Quick.{Tried}
 use Rattle.fastpath.proofs.Tries.{Carried}
 use Rattle.host_record.specs.Hosts.{hostBytes, hostAt}
 use Rattle.host_record.proofs.Theorems.{host-loaded}
-use Rattle.reply.specs.Replies.{replyOf, unreadableOf, isMachine}
+use Rattle.reply.specs.Replies.{isSent, replyOf, unreadableOf, isMachine}
 use Rattle.reply.proofs.Records.{machine-host}
 use Rattle.port_device.specs.Calls.{Lent, lent, Returned, returned, machineAt, carriedReply, behind, Made, made, madeOf, Stored, storedOut, storedOf, newOf, pausedOf}
 
@@ -73,6 +75,16 @@ module _ (call : Machine → Done) (x : Lent) where
 
     pub left-machine : (y .device ≡ x .device) × (y .memory ≡ x .memory) → isMachine (y .device) (x .host) ≡ true
     left-machine l = rw (l .0) t
+
+-- `advance` on the record, and the host end that it answers stored
+pub advanced-outcome : (nanos : ℕ) (x : Lent) → isMachine (x .device) (x .host) ≡ true → (h : Host) → h ≡ hostAt (x .host) → (a : Advanced) (device lists queues memory : List ℕ)
+    → leftOut a device lists queues memory ≡ leftBy (advanceOf nanos (machine (deviceAt (x .device)) h (x .lists) (x .queues) (x .memory)))
+    → (host : List ℕ) → host ≡ hostBytes (a .host) → (sent : Bool) → sent ≡ isSent (a .msi) → (r : ℕ) → r ≡ replyOf (a .number) (a .level) sent 0
+    → returned r (lent device host lists queues memory) ≡ behind (advanceOf nanos) x
+unfolding behind
+advanced-outcome nanos x t h eh a device lists queues memory e host es sent ed r er =
+    rw (t, er, ed, es, ← eh)
+    (ap (λ (l : Left). let b = l .advanced in returned (replyOf (b .number) (b .level) (isSent (b .msi)) 0) (lent (l .device) (hostBytes (b .host)) (l .lists) (l .queues) (l .memory))) e)
 
 -- base address 0 is the registers
 pub bar-zero : (bar offset : ℕ) (bytes : List ℕ) (x : Lent) → bar ≡ 0 → behind (writeOf offset bytes) x ≡ behind (hda.barWriteOf bar offset bytes) x

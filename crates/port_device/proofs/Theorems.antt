@@ -169,7 +169,7 @@ config-word : (d : Hda) → length (d .config) ≡ 256 → (n k : ℕ) → k + n
 unfolding wordAt deviceBytes headOf
 config-word d size n k fits =
     let later : List ℕ = d .regs ++ linkBytes d in
-    let tail : List ℕ = streamsBytes streams 0 d ++ flag (d .asserted) ∷ [] in
+    let tail : List ℕ = streamsBytes streams 0 (d .streams) ++ flag (d .asserted) ∷ [] in
     let there : drop 6 (deviceBytes d) ≡ d .config ++ (later ++ tail) = append-assoc (d .config) later tail in
     ap valueOf
     (part-further (deviceBytes d) 6 (d .config ++ (later ++ tail)) there k n

@@ -1,5 +1,5 @@
-// Calls that change a device, where the caller has its record and that of the host end as bytes. Each returns one number (crate reply). Most writes take the fast path
-// (crate fastpath); else the device is taken out of its record, handed on by value, and put back.
+// Calls that change a device, where the caller has its record and that of the host end as bytes. Each returns one number (crate reply). `advance` works on the record, and
+// so do most writes (crate fastpath); else the device is taken out of its record, handed on by value, and put back.
 use device::Answer;
 use fastpath::Quick;
 ghost use mathlib.Core.Path.{_≡_};
@@ -78,10 +78,12 @@ pub fn advance(
     if !reply::is_machine(device, host) {
         return reply::unreadable(lists.len(), queues.len());
     }
-    let d = record::load_device(device);
     let h = host_record::load_host(host);
-    let a = advance::advance(d, h, lists, queues, memory, nanos);
-    stored(a, device, host)
+    let passed = advance::advance(device, h, lists, queues, memory, nanos);
+    let end = passed.host;
+    host_record::store_host(end, host);
+    let msi = passed.msi;
+    reply::reply(passed.number, passed.level, reply::is_sent(msi), 0)
 }
 
 // A guest's write to the registers.

@@ -77,7 +77,7 @@ pub fn check(device: &[u8], host: Host, lists: &[u8], queues: usize) -> u32
 }
 
 // The number and the INTx level of a call that leaves the device as it is.
-fn status_of(device: &[u8], number: u32) -> Status
+pub fn status_of(device: &[u8], number: u32) -> Status
     requires { ⌜ length (now device) ≡ deviceSize ⌝ }
     ensures { λ r. ⌜ r ≡ statusOf number (deviceAt (now (device .entry))) ⌝ }
 {

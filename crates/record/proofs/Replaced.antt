@@ -1,31 +1,37 @@
 -- Parts of a device put over those in its record give the record of the device with these parts. Assumes nothing.
-use Prim.Native.Nat.{ℕ, _+_}
+use Prim.Native.Nat.{ℕ, _+_, _*_, _≤_}
 use mathlib.Core.Path.{_≡_, refl, sym, ap, _∙_}
 use mathlib.Core.Bool.{Bool, true}
 use mathlib.Core.List.{List, [], _∷_, _++_, append-assoc}
 use native.Mathlib.Omega.{arith}
+use native.Mathlib.Nat.{zero-add}
 use lib.ListN.{length, drop, take, set, length-append, length-drop}
 use lib.Seq.{take-at, drop-at, length-take-le}
 use Rattle.word.specs.Value.{bytesOf, Bytes}
 use Rattle.word.specs.Place.{putAt, storeAt}
 use Rattle.word.proofs.Value.{length-bytes}
-use Rattle.word.proofs.Place.{store-put}
+use Rattle.word.proofs.Place.{store-put, word-bound}
+use Rattle.clock.specs.declared.Clock.{Clock}
 use Rattle.codec.specs.declared.Codec.{Codec}
 use Rattle.codec.specs.WellFormed.{WellFormed}
 use Rattle.codec.specs.Bytes.{recordsOf, storeCodecAt}
 use Rattle.codec.proofs.Bytes.{length-records, load-well-formed}
+use Rattle.stream.specs.declared.Stream.{Stream}
+use Rattle.stream.specs.Streams.{freshOf}
 use Rattle.stream.specs.Box.{streams}
 use Rattle.rings.specs.declared.Link.{Link}
 use Rattle.rings.specs.Rings.{linkOf}
 use Rattle.device.specs.declared.Hda.{Hda}
-use Rattle.device.specs.Devices.{withConfig, withRegs, withLink, withAsserted}
+use Rattle.device.specs.Devices.{withConfig, withRegs, withLink, withClock, withAsserted}
 use Rattle.record.specs.Layout.{latchPlace, deviceSize}
-use Rattle.record.specs.Devices.{mark, flag, headOf, streamsBytes, deviceBytes, replacedIn}
-use Rattle.record.specs.Loads.{deviceAt, isDevice}
-use Rattle.record.specs.Typed.{Sized}
+use Rattle.record.specs.Rows.{rowOf}
+use Rattle.record.specs.Devices.{mark, flag, headOf, streamsBytes, deviceBytes, replacedIn, withStreams}
+use Rattle.record.specs.Loads.{streamAt, deviceAt, isDevice, Holds}
+use Rattle.record.specs.Typed.{Fits, Sized, TypedStream, TypedDevice}
 use Rattle.record.proofs.Puts.{set-put}
 use Rattle.record.proofs.Sizes.{length-head, length-streams, length-device}
-use Rattle.record.proofs.Theorems.{tailOf, timesOf, regrouped, device-loaded}
+use Rattle.record.proofs.Places.{row-at}
+use Rattle.record.proofs.Theorems.{tailOf, timesOf, regrouped, device-stored, device-record, device-loaded}
 
 -- a run put over one of its length
 over : (at : ℕ) (new l front old rest : List ℕ) → l ≡ front ++ (old ++ rest) → length front ≡ at → length new ≡ length old → putAt at new l ≡ front ++ (new ++ rest)
@@ -40,6 +46,13 @@ over at new l front old rest e p n =
 -- what stands before the files
 abbrev flagsOf : Hda → List ℕ
 flagsOf d = mark ++ (flag (d .microphone) ∷ flag (d .paused) ∷ [])
+
+-- what stands before the clock, from the files on
+abbrev linesOf : Hda → List ℕ
+linesOf d = d .config ++ (d .regs ++ recordsOf (d .link .codec))
+
+abbrev clockOf : ℕ → ℕ → Clock
+clockOf ticks fraction = record { ticks = ticks; fraction = fraction }
 
 -- what stands before the responses, from the files on
 abbrev framesOf : Hda → List ℕ
@@ -87,49 +100,148 @@ module _ (d : Hda) (z : Sized d) where
       (length-bytes 2 n ∙ sym (length-bytes 2 (d .link .responses)))
       ∙ sym (regrouped (withLink d (linkOf (d .link .codec) n)) ∙ simp append-assoc)
 
+  -- the clock's two numbers
+  put-ticks : (n : ℕ) → storeAt 8 662 n (deviceBytes d) ≡ deviceBytes (withClock d (clockOf n (d .clock .fraction)))
+  put-ticks n =
+      store-put 8 662 n (deviceBytes d)
+      ∙ over 662 (bytesOf 8 n) (deviceBytes d) (flagsOf d ++ linesOf d) (bytesOf 8 (d .clock .ticks)) (bytesOf 8 (d .clock .fraction) ++ (bytesOf 2 (d .link .responses) ++ tailOf d))
+      (regrouped d ∙ simp append-assoc)
+      (length-append (flagsOf d) (linesOf d)
+      ∙ omega (
+        arith,
+        length-append (d .config) (d .regs ++ recordsOf (d .link .codec)),
+        length-append (d .regs) (recordsOf (d .link .codec)),
+        length-records (d .link .codec) (z .codec),
+        z .config,
+        z .regs,
+      ))
+      (length-bytes 8 n ∙ sym (length-bytes 8 (d .clock .ticks)))
+      ∙ sym (regrouped (withClock d (clockOf n (d .clock .fraction))) ∙ simp append-assoc)
+
+  put-fraction : (n : ℕ) → storeAt 8 670 n (deviceBytes d) ≡ deviceBytes (withClock d (clockOf (d .clock .ticks) n))
+  put-fraction n =
+      let ticks : List ℕ = bytesOf 8 (d .clock .ticks) in
+      let codec : List ℕ = recordsOf (d .link .codec) in
+      store-put 8 670 n (deviceBytes d)
+      ∙ over 670 (bytesOf 8 n) (deviceBytes d) (flagsOf d ++ (d .config ++ (d .regs ++ (codec ++ ticks)))) (bytesOf 8 (d .clock .fraction)) (bytesOf 2 (d .link .responses) ++ tailOf d)
+      (regrouped d ∙ simp append-assoc)
+      (length-append (flagsOf d) (d .config ++ (d .regs ++ (codec ++ ticks)))
+      ∙ omega (
+        arith,
+        length-append (d .config) (d .regs ++ (codec ++ ticks)),
+        length-append (d .regs) (codec ++ ticks),
+        length-append codec ticks,
+        length-bytes 8 (d .clock .ticks),
+        length-records (d .link .codec) (z .codec),
+        z .config,
+        z .regs,
+      ))
+      (length-bytes 8 n ∙ sym (length-bytes 8 (d .clock .fraction)))
+      ∙ sym (regrouped (withClock d (clockOf (d .clock .ticks) n)) ∙ simp append-assoc)
+
+  put-bank : (bank : List Stream) → putAt 680 (streamsBytes streams 0 bank) (deviceBytes d) ≡ deviceBytes (withStreams d bank)
+  unfolding deviceBytes headOf
+  put-bank bank =
+      over 680 (streamsBytes streams 0 bank) (deviceBytes d) (headOf d) (streamsBytes streams 0 (d .streams)) (flag (d .asserted) ∷ []) refl (length-head d z)
+      (length-streams bank ∙ sym (length-streams (d .streams)))
+
   put-latch : (asserted : Bool) → set (deviceBytes d) latchPlace (flag asserted) ≡ deviceBytes (withAsserted d asserted)
   unfolding deviceBytes headOf
   put-latch asserted =
       set-put latchPlace (flag asserted) (deviceBytes d) (omega (arith, length-device d z))
-      ∙ over latchPlace (flag asserted ∷ []) (deviceBytes d) (headOf d ++ streamsBytes streams 0 d) (flag (d .asserted) ∷ []) []
-      (sym (append-assoc (headOf d) (streamsBytes streams 0 d) _))
-      (length-append (headOf d) (streamsBytes streams 0 d) ∙ omega (arith, length-head d z, length-streams d)) refl
-      ∙ append-assoc (headOf d) (streamsBytes streams 0 d) _
+      ∙ over latchPlace (flag asserted ∷ []) (deviceBytes d) (headOf d ++ streamsBytes streams 0 (d .streams)) (flag (d .asserted) ∷ []) []
+      (sym (append-assoc (headOf d) (streamsBytes streams 0 (d .streams)) _))
+      (length-append (headOf d) (streamsBytes streams 0 (d .streams)) ∙ omega (arith, length-head d z, length-streams (d .streams))) refl
+      ∙ append-assoc (headOf d) (streamsBytes streams 0 (d .streams)) _
 
--- all of them, one after another
-replaced : (d : Hda) → Sized d → (b config regs : List ℕ) (link : Link) (asserted : Bool) → length config ≡ 256 → length regs ≡ 256 → WellFormed (link .codec)
-    → b ≡ deviceBytes d → (p q r s : List ℕ) (v : ℕ) → p ≡ putAt 6 config b → q ≡ putAt 262 regs p → r ≡ storeCodecAt 518 (link .codec) q
-    → s ≡ storeAt 2 678 (link .responses) r → v ≡ flag asserted → set s latchPlace v ≡ deviceBytes (replacedIn d config regs link asserted)
-unfolding storeCodecAt
-replaced d z b config regs link asserted lc lr w e p q r s v ep eq er es ev =
-    let d1 : Hda = withConfig d config in
-    let z1 : Sized d1 = record { config = lc; regs = z .regs; codec = z .codec } in
-    let d2 : Hda = withRegs d1 regs in
-    let z2 : Sized d2 = record { config = lc; regs = lr; codec = z .codec } in
-    let d3 : Hda = withLink d2 (linkOf (link .codec) (d .link .responses)) in
-    let z3 : Sized d3 = record { config = lc; regs = lr; codec = w } in
-    let d4 : Hda = withLink d3 link in
-    let z4 : Sized d4 = record { config = lc; regs = lr; codec = w } in
-    let first = ep ∙ ap (putAt 6 config) e ∙ put-config d z config lc in
-    let second = eq ∙ ap (putAt 262 regs) first ∙ put-regs d1 z1 regs lr in
-    let third = er ∙ ap (putAt 518 (recordsOf (link .codec))) second ∙ put-codec d2 z2 (link .codec) w in
-    let fourth = es ∙ ap (storeAt 2 678 (link .responses)) third ∙ put-responses d3 z3 (link .responses) in
-    rw (ev, fourth) (put-latch d4 z4 asserted)
-
--- the device in a record has files of 256 bytes and six records
-loaded-sized : (b : List ℕ) → length b ≡ deviceSize → Bytes b → Sized (deviceAt b)
-unfolding deviceAt
-loaded-sized b size h =
+-- a stream out of bytes has numbers within its types
+stream-typed : (b : List ℕ) (at : ℕ) → at + 34 ≤ length b → Bytes b → TypedStream (streamAt at b)
+stream-typed b at fits h =
     record {
-      config = length-take-le 256 (drop 6 b) (omega (arith, length-drop 6 b));
-      regs = length-take-le 256 (drop 262 b) (omega (arith, length-drop 262 b));
-      codec = load-well-formed 518 b (omega arith) h;
+      descriptor = word-bound 2 at b (omega arith) h;
+      offset = word-bound 4 (at + 2) b (omega arith) h;
+      submitted = word-bound 8 (at + 6) b (omega arith) h;
+      consumed = word-bound 8 (at + 14) b (omega arith) h;
+      fraction = word-bound 8 (at + 22) b (omega arith) h;
+      pending = word-bound 4 (at + 30) b (omega arith) h;
     }
 
--- .. so the parts go over those of the device that stands there
-pub replaced-in : (b : List ℕ) → length b ≡ deviceSize → isDevice b ≡ true → Bytes b → (config regs : List ℕ) (link : Link) (asserted : Bool) → length config ≡ 256
-    → length regs ≡ 256 → WellFormed (link .codec) → (p q r s : List ℕ) (v : ℕ) → p ≡ putAt 6 config b → q ≡ putAt 262 regs p
-    → r ≡ storeCodecAt 518 (link .codec) q → s ≡ storeAt 2 678 (link .responses) r → v ≡ flag asserted
-    → set s latchPlace v ≡ deviceBytes (replacedIn (deviceAt b) config regs link asserted)
-replaced-in b size t h config regs link asserted lc lr w =
-    replaced (deviceAt b) (loaded-sized b size h) b config regs link asserted lc lr w (sym (device-loaded b t h))
+-- ---- the device in a record: what its bytes say of it
+loaded-typed : (b : List ℕ) → length b ≡ deviceSize → Bytes b → TypedDevice (deviceAt b)
+unfolding deviceAt rowOf
+loaded-typed b size h =
+    record {
+      sized = record {
+        config = length-take-le 256 (drop 6 b) (omega (arith, length-drop 6 b));
+        regs = length-take-le 256 (drop 262 b) (omega (arith, length-drop 262 b));
+        codec = load-well-formed 518 b (omega arith) h;
+      };
+      ticks = word-bound 8 662 b (omega arith) h;
+      fraction = word-bound 8 670 b (omega arith) h;
+      responses = word-bound 2 678 b (omega arith) h;
+      count = refl;
+      each = λ i few. rw (row-at freshOf (λ (k : ℕ). streamAt (680 + 34 * k) b) streams 0 i few, zero-add i) (stream-typed b (680 + 34 * i) (omega arith) h);
+    }
+
+-- a record of a device holds it
+held : (d : Hda) → TypedDevice d → (b : List ℕ) → b ≡ deviceBytes d → Holds b d
+held d t b e = record { device = ap isDevice e ∙ device-record d t; same = ap deviceAt e ∙ device-stored d t }
+
+-- ---- the parts over those of the device that stands there
+module _ (b : List ℕ) (size : length b ≡ deviceSize) (r : isDevice b ≡ true) (h : Bytes b) where
+  abbrev d : Hda
+  d = deviceAt b
+
+  t : TypedDevice d
+  t = loaded-typed b size h
+
+  whole : b ≡ deviceBytes d
+  whole = sym (device-loaded b r h)
+
+  module _ (config regs : List ℕ) (asserted : Bool) (lc : length config ≡ 256) (lr : length regs ≡ 256) (p q : List ℕ) (v : ℕ) (ep : p ≡ putAt 6 config b) (eq : q ≡ putAt 262 regs p)
+      (ev : v ≡ flag asserted) where
+    pub files-replaced : set q latchPlace v ≡ deviceBytes (replacedIn d config regs asserted)
+    files-replaced =
+        let d1 : Hda = withConfig d config in
+        let z1 : Sized d1 = record { config = lc; regs = t .sized .regs; codec = t .sized .codec } in
+        let d2 : Hda = withRegs d1 regs in
+        let z2 : Sized d2 = record { config = lc; regs = lr; codec = t .sized .codec } in
+        let first = ep ∙ ap (putAt 6 config) whole ∙ put-config d (t .sized) config lc in
+        let second = eq ∙ ap (putAt 262 regs) first ∙ put-regs d1 z1 regs lr in
+        rw (ev, second) (put-latch d2 z2 asserted)
+
+    pub files-held : Holds (set q latchPlace v) (replacedIn d config regs asserted)
+    files-held =
+        held (replacedIn d config regs asserted)
+        (record {
+          sized = record { config = lc; regs = lr; codec = t .sized .codec };
+          ticks = t .ticks;
+          fraction = t .fraction;
+          responses = t .responses;
+          count = t .count;
+          each = t .each;
+        })
+        _ files-replaced
+
+  pub link-held : (link : Link) → WellFormed (link .codec) → link .responses ≤ 255 → (p q : List ℕ) → p ≡ storeCodecAt 518 (link .codec) b → q ≡ storeAt 2 678 (link .responses) p
+      → Holds q (withLink d link)
+  unfolding storeCodecAt
+  link-held link w few p q ep eq =
+      let d1 : Hda = withLink d (linkOf (link .codec) (d .link .responses)) in
+      let z1 : Sized d1 = record { config = t .sized .config; regs = t .sized .regs; codec = w } in
+      let first = ep ∙ ap (putAt 518 (recordsOf (link .codec))) whole ∙ put-codec d (t .sized) (link .codec) w in
+      held (withLink d link)
+      (record { sized = record { config = t .sized .config; regs = t .sized .regs; codec = w }; ticks = t .ticks; fraction = t .fraction; responses = omega arith; count = t .count; each = t .each }) q
+      (eq ∙ ap (storeAt 2 678 (link .responses)) first ∙ put-responses d1 z1 (link .responses))
+
+  pub clock-held : (c : Clock) → Fits 8 (c .ticks) → Fits 8 (c .fraction) → (p q : List ℕ) → p ≡ storeAt 8 662 (c .ticks) b → q ≡ storeAt 8 670 (c .fraction) p → Holds q (withClock d c)
+  clock-held c ticks fraction p q ep eq =
+      let d1 : Hda = withClock d (clockOf (c .ticks) (d .clock .fraction)) in
+      let z1 : Sized d1 = record { config = t .sized .config; regs = t .sized .regs; codec = t .sized .codec } in
+      let first = ep ∙ ap (storeAt 8 662 (c .ticks)) whole ∙ put-ticks d (t .sized) (c .ticks) in
+      held (withClock d c)
+      (record { sized = record { config = z1 .config; regs = z1 .regs; codec = z1 .codec }; ticks = ticks; fraction = fraction; responses = t .responses; count = t .count; each = t .each }) q
+      (eq ∙ ap (storeAt 8 670 (c .fraction)) first ∙ put-fraction d1 z1 (c .fraction))
+
+  pub streams-replaced : (bank : List Stream) (p : List ℕ) → p ≡ putAt 680 (streamsBytes streams 0 bank) b → p ≡ deviceBytes (withStreams d bank)
+  streams-replaced bank p e = e ∙ ap (putAt 680 (streamsBytes streams 0 bank)) whole ∙ put-bank d (t .sized) bank

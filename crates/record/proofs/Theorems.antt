@@ -74,7 +74,7 @@ module _ (b : List ℕ) (at : ℕ) (fits : at + 144 ≤ length b) where
 -- ---- a device's bytes
 -- what stands behind the head
 abbrev pub tailOf : Hda → List ℕ
-tailOf d = streamsBytes streams 0 d ++ flag (d .asserted) ∷ []
+tailOf d = streamsBytes streams 0 (d .streams) ++ flag (d .asserted) ∷ []
 
 -- .. behind the codec
 abbrev pub timesOf : Hda → List ℕ
@@ -111,7 +111,7 @@ module _ (d : Hda) (t : TypedDevice d) where
   at-streams = sym (drop-drop 18 662 (deviceBytes d)) ∙ ap (drop 18) at-times
 
   at-latch : drop latchPlace (deviceBytes d) ≡ flag (d .asserted) ∷ []
-  at-latch = run-after (deviceBytes d) 680 (streamsBytes streams 0 d) _ at-streams (34 * streams) (length-streams d) latchPlace refl
+  at-latch = run-after (deviceBytes d) 680 (streamsBytes streams 0 (d .streams)) _ at-streams (34 * streams) (length-streams (d .streams)) latchPlace refl
 
   codec-stored : codecAt 518 (deviceBytes d) ≡ d .link .codec
   codec-stored =

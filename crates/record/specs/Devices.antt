@@ -2,11 +2,12 @@
 use Prim.Native.Nat.{ℕ}
 use mathlib.Core.Bool.{Bool, cond}
 use mathlib.Core.List.{List, [], _∷_, _++_}
+use lib.ListN.{getD}
 use Rattle.word.specs.Value.{bytesOf}
 use Rattle.codec.specs.Bytes.{recordsOf}
 use Rattle.stream.specs.declared.Stream.{Stream}
+use Rattle.stream.specs.Streams.{freshOf}
 use Rattle.stream.specs.Box.{streams}
-use Rattle.rings.specs.declared.Link.{Link}
 use Rattle.device.specs.declared.Hda.{Hda}
 use Rattle.device.specs.Devices as devices
 use Rattle.record.specs.Rows.{runsOf}
@@ -35,12 +36,16 @@ unfoldable pub numbersOf : Stream → List ℕ
 numbersOf s = bytesOf 2 (s .descriptor) ++ (bytesOf 4 (s .offset) ++ (bytesOf 8 (s .submitted) ++ countsOf s))
 
 -- stream `i` and those after it
-abbrev pub streamsBytes : ℕ → ℕ → Hda → List ℕ
-streamsBytes n i d = runsOf (λ k. numbersOf (devices.streamAt d k)) n i
+abbrev pub streamsBytes : ℕ → ℕ → List Stream → List ℕ
+streamsBytes n i bank = runsOf (λ k. numbersOf (getD bank k freshOf)) n i
 
 unfoldable pub deviceBytes : Hda → List ℕ
-deviceBytes d = headOf d ++ (streamsBytes streams 0 d ++ flag (d .asserted) ∷ [])
+deviceBytes d = headOf d ++ (streamsBytes streams 0 (d .streams) ++ flag (d .asserted) ∷ [])
 
--- a device with other files, link and message latch
-abbrev pub replacedIn : Hda → List ℕ → List ℕ → Link → Bool → Hda
-replacedIn d config regs link asserted = devices.hda config regs link (d .streams) (d .clock) (d .microphone) (d .paused) asserted
+-- a device with other files and message latch
+abbrev pub replacedIn : Hda → List ℕ → List ℕ → Bool → Hda
+replacedIn d config regs asserted = devices.hda config regs (d .link) (d .streams) (d .clock) (d .microphone) (d .paused) asserted
+
+-- .. and with other streams
+abbrev pub withStreams : Hda → List Stream → Hda
+withStreams d bank = devices.hda (d .config) (d .regs) (d .link) bank (d .clock) (d .microphone) (d .paused) (d .asserted)

@@ -13,9 +13,10 @@ ghost use Prim.Native.Nat.{_+_, _*_, _≤_, _<_};
 ghost use lib.ListN.{length};
 ghost use Rattle.word.specs.Place.{putAt, storeAt};
 ghost use Rattle.stream.specs.Box.{streams};
+ghost use Rattle.device.specs.Devices.{withLink, withClock};
 ghost use Rattle.record.specs.Layout.{latchPlace, deviceSize};
-ghost use Rattle.record.specs.Devices.{flag, linkBytes, headOf, countsOf, numbersOf, streamsBytes, deviceBytes, replacedIn};
-ghost use Rattle.record.specs.Loads.{flagAt, isFlagAt, markedOf, blockAt, linkAt, clockAt, streamAt, streamsAt, deviceAt, isDevice};
+ghost use Rattle.record.specs.Devices.{flag, linkBytes, headOf, countsOf, numbersOf, streamsBytes, deviceBytes, replacedIn, withStreams};
+ghost use Rattle.record.specs.Loads.{flagAt, isFlagAt, markedOf, blockAt, linkAt, clockAt, streamAt, streamsAt, deviceAt, isDevice, Holds};
 
 // Bytes of a state or a device record before its streams, and of a stream's numbers in it.
 pub const HEAD: usize = 680;
@@ -97,14 +98,14 @@ pub fn put_numbers(s: Stream, into: &mut [u8], at: usize)
 }
 
 // Every stream's numbers, one behind the other.
-fn put_streams(hda: Hda, into: &mut [u8])
+fn put_streams(bank: [Stream; STREAMS], into: &mut [u8])
     requires { ⌜ deviceSize ≤ length (now into) ⌝ }
-    ensures { λ _. ⌜ now (into .exit) ≡ putAt 680 (streamsBytes streams 0 hda) (now (into .entry)) ⌝ }
+    ensures { λ _. ⌜ now (into .exit) ≡ putAt 680 (streamsBytes streams 0 bank) (now (into .entry)) ⌝ }
 {
     let count = STREAMS;
     let mut index = 0;
     while index < count {
-        let s = hda.streams[index];
+        let s = bank[index];
         put_numbers(s, into, HEAD + NUMBERS * index);
         index += 1;
     }
@@ -116,21 +117,49 @@ pub fn store_device(hda: Hda, into: &mut [u8])
     ensures { λ _. ⌜ now (into .exit) ≡ deviceBytes hda ⌝ }
 {
     put_head(hda, into);
-    put_streams(hda, into);
+    let bank = hda.streams;
+    put_streams(bank, into);
     into[LATCH] = flag_byte(hda.asserted);
 }
 
-// A device in its record with other files, link and message latch; its streams, its clock and the two flags stay where they are.
-pub fn replace(into: &mut [u8], config: &Config, regs: &Registers, link: Link, asserted: bool)
+// ---- Parts of a device where it stands in its record; all else stays where it is.
+
+// Its configuration, registers and message latch.
+pub fn replace_files(into: &mut [u8], config: &Config, regs: &Registers, asserted: bool)
     requires { ⌜ (length (now into) ≡ deviceSize) × (isDevice (now into) ≡ true) ⌝ }
-    ensures { λ _. ⌜ now (into .exit) ≡ deviceBytes (replacedIn (deviceAt (now (into .entry))) (now (config .entry)) (now (regs .entry)) link asserted) ⌝ }
+    ensures { λ _. ⌜ now (into .exit) ≡ deviceBytes (replacedIn (deviceAt (now (into .entry))) (now (config .entry)) (now (regs .entry)) asserted) ⌝ }
+    ensures { λ _. ⌜ Holds (now (into .exit)) (replacedIn (deviceAt (now (into .entry))) (now (config .entry)) (now (regs .entry)) asserted) ⌝ }
 {
     put(into, 6, config);
     put(into, 262, regs);
+    into[LATCH] = flag_byte(asserted);
+}
+
+// Its codec and responses.
+pub fn replace_link(into: &mut [u8], link: Link)
+    requires { ⌜ (length (now into) ≡ deviceSize) × (isDevice (now into) ≡ true) × (link .responses ≤ 255) ⌝ }
+    ensures { λ _. ⌜ Holds (now (into .exit)) (withLink (deviceAt (now (into .entry))) link) ⌝ }
+{
     let codec = link.codec;
     codec.store(into, 518);
     put_low(into, 678, link.responses);
-    into[LATCH] = flag_byte(asserted);
+}
+
+// Its clock.
+pub fn replace_clock(into: &mut [u8], c: Clock)
+    requires { ⌜ (length (now into) ≡ deviceSize) × (isDevice (now into) ≡ true) ⌝ }
+    ensures { λ _. ⌜ Holds (now (into .exit)) (withClock (deviceAt (now (into .entry))) c) ⌝ }
+{
+    word::put64(into, 662, c.ticks);
+    word::put64(into, 670, c.fraction);
+}
+
+// Its streams.
+pub fn replace_streams(into: &mut [u8], bank: [Stream; STREAMS])
+    requires { ⌜ (length (now into) ≡ deviceSize) × (isDevice (now into) ≡ true) ⌝ }
+    ensures { λ _. ⌜ now (into .exit) ≡ deviceBytes (withStreams (deviceAt (now (into .entry))) bank) ⌝ }
+{
+    put_streams(bank, into);
 }
 
 // Whether the device in a record has a message asserted.
@@ -201,7 +230,7 @@ pub fn load_stream(from: &[u8], at: usize) -> Stream
 }
 
 // Every stream's numbers.
-fn load_streams(from: &[u8]) -> [Stream; STREAMS]
+pub fn load_streams(from: &[u8]) -> [Stream; STREAMS]
     requires { ⌜ deviceSize ≤ length (now from) ⌝ }
     ensures { λ r. ⌜ r ≡ streamsAt streams 0 (now (from .entry)) ⌝ }
 {

@@ -1,7 +1,7 @@
 -- The outcome of each function, from what its tests and calls leave. Assumes nothing.
 use Prim.Native.Nat.{ℕ, zero, suc, _+_, _-_, _≤_, _<_}
 use mathlib.Core.Path.{_≡_, refl, sym, ap, _∙_}
-use mathlib.Core.Bool.{Bool, true, false, false≢true}
+use mathlib.Core.Bool.{Bool, true, false, not, _&&_, _||_, false≢true}
 use mathlib.Core.List.{List, _++_}
 use native.Mathlib.Omega.{arith}
 use lib.Dec.{eqb}
@@ -16,10 +16,11 @@ use Rattle.codec.specs.declared.Outcome.{Outcome}
 use Rattle.codec.specs.declared.Reply.{Reply}
 use Rattle.codec.specs.declared.Reply.the-variants.{Nothing, Value}
 use Rattle.codec.specs.Codecs.{verbOf}
+use Rattle.registers.proofs.Tests.{both}
 use Rattle.registers.specs.Places.{corbbase, corbrp, corbwp, corbsize, rirbbase, rirbwp, rirbctl, rirbsts, byteAt, has, withBits}
 use Rattle.rings.specs.declared.Link.{Link}
 use Rattle.rings.specs.declared.Command.{Command}
-use Rattle.rings.specs.Rings.{Rings, ringsOf, linkOf, entriesOf, entryAt, countedOf, nextResponse, responseOf, answeredOf, currentOf, nextCommand, fetchOf, executedOf, fetchedOf, commandAs, haltedOf, fetchesOf, idleOf, runningOf, commandsOf}
+use Rattle.rings.specs.Rings.{Rings, ringsOf, linkOf, entriesOf, entryAt, countedOf, nextResponse, responseOf, answeredOf, currentOf, nextCommand, fetchOf, executedOf, fetchedOf, commandAs, haltedOf, fetchesOf, idleOf, runningOf, restsOf, commandsOf}
 
 -- ---- a response
 -- its eight bytes, word by word
@@ -118,3 +119,26 @@ module _ (dma : Bool) (x : Rings) where
     -- none waits
     pub commands-caught-up : eqb (currentOf (x .regs) corbrp) (currentOf (x .regs) corbwp) ≡ true → idleOf x ≡ commandsOf dma x
     commands-caught-up e = ap idleOf (sym (fetches-rest x (entriesOf (byteAt (x .regs) corbsize)) e)) ∙ commands-done
+
+-- where there is nothing to do, nothing changes
+pub commands-rest : (dma : Bool) (x : Rings) → restsOf dma (x .regs) (x .link .responses) ≡ true → x ≡ commandsOf dma x
+unfolding restsOf
+commands-rest dma x e = go (runningOf dma (x .regs)) refl e
+  where
+    go : (b : Bool) → runningOf dma (x .regs) ≡ b → (not b || (eqb (currentOf (x .regs) corbrp) (currentOf (x .regs) corbwp) && eqb (x .link .responses) 0)) ≡ true
+        → x ≡ commandsOf dma x
+    go false runs rest = commands-stopped dma x runs
+    go true runs rest =
+        let k = both (eqb (currentOf (x .regs) corbrp) (currentOf (x .regs) corbwp)) (eqb (x .link .responses) 0) rest in
+        let none : idleOf x ≡ x = rw (k .1) in
+        sym none ∙ commands-caught-up dma x runs (k .0)
+
+-- the two tests as the code makes them
+pub rests-stopped : (dma : Bool) (regs : List ℕ) (responses : ℕ) → runningOf dma regs ≡ false → true ≡ restsOf dma regs responses
+unfolding restsOf
+rests-stopped dma regs responses e = rw e
+
+pub rests-running : (dma : Bool) (regs : List ℕ) (responses : ℕ) → runningOf dma regs ≡ true
+    → (eqb (currentOf regs corbrp) (currentOf regs corbwp) && eqb responses 0) ≡ restsOf dma regs responses
+unfolding restsOf
+rests-running dma regs responses e = rw e

@@ -10,7 +10,7 @@ ghost use lib.Dec.{eqb};
 ghost use Rattle.word.specs.Value.{bytesOf};
 ghost use Rattle.memory.specs.Memory.{accessOf, writeOf};
 ghost use Rattle.registers.specs.Places.{corbrp, corbwp, corbsize, byteAt, has};
-ghost use Rattle.rings.specs.Rings.{ringsOf, entriesOf, entryAt, reportedOf, thresholdOf, countedOf, nextResponse, responseOf, answeredOf, currentOf, nextCommand, executedOf, fetchOf, commandAs, fetchesOf, idleOf, runningOf, commandsOf};
+ghost use Rattle.rings.specs.Rings.{ringsOf, entriesOf, entryAt, reportedOf, thresholdOf, countedOf, nextResponse, responseOf, answeredOf, currentOf, nextCommand, executedOf, fetchOf, commandAs, fetchesOf, idleOf, runningOf, restsOf, commandsOf};
 
 // The link behind the rings: the codec, and how many responses have not been reported by an interrupt.
 pub struct Link {
@@ -260,6 +260,17 @@ fn running(dma: bool, regs: &Registers) -> bool
     ensures { λ r. ⌜ r ≡ runningOf dma (now (regs .entry)) ⌝ }
 {
     dma & any(2, regs[registers::CORBCTL]) & !any(0x80, regs[registers::CORBRP + 1])
+}
+
+// Whether `commands` would leave everything as it is: the command ring does not run, or it has caught up and no response is left to report. So who asks first need
+// not hand over the link.
+pub fn rests(dma: bool, regs: &Registers, responses: u32) -> bool
+    ensures { λ r. ⌜ r ≡ restsOf dma (now (regs .entry)) responses ⌝ }
+{
+    if !running(dma, regs) {
+        return true;
+    }
+    caught_up(regs) & (responses == 0)
 }
 
 // Every command that waits in the command ring, where the ring runs. Each register write of the guest comes here, so the tests are first.

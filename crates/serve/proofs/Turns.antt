@@ -11,6 +11,7 @@ use lib.ListN.{length, take, drop, getD, set, length-drop}
 use lib.Seq.{length-take-le}
 use Rattle.word.specs.Each.{eachOf}
 use Rattle.word.proofs.Each.{each-step, each-stop}
+use Rattle.codec.specs.declared.Codec.{Codec}
 use Rattle.stream.specs.declared.Stream.{Stream}
 use Rattle.stream.specs.Streams.{places, freshOf}
 use Rattle.stream.specs.Box.{streams}
@@ -25,7 +26,7 @@ use Rattle.device.specs.declared.Hda.{Hda}
 use Rattle.device.specs.Devices.{listSize, withRegs, withStream, streamAt}
 use Rattle.device.specs.Machines.{Machine, machine}
 use Rattle.serve.specs.declared.Served.{Served}
-use Rattle.serve.specs.Serve.{runs, Turns, turnsOf, turnsAnswer, takenOf, turnAt, goesOn, ServeNeeds}
+use Rattle.serve.specs.Serve.{runs, Turns, turnsOf, bankOf, turnsAnswer, takenOf, turnAt, goesOn, ServeNeeds}
 
 -- what holds of the element put, and held of each, holds of each
 set-keeps : {A : Type 0} (P : A → Type 0) (l : List A) (i j : ℕ) (v d : A) → P v → P (getD l j d) → P (getD (set l i v) j d)
@@ -58,17 +59,18 @@ module _ (nanos i : ℕ) (d : Hda) (h : Host) (l q m : List ℕ) where
   unfolding turnAt
   turn-none e = rw e
 
-  -- one that takes a turn: its parts lent, and what comes back
-  pub turn-taken : (j k : ℕ) (t : Turned) (regs′ l′ q′ m′ : List ℕ) → runs (d .regs) i ≡ true → j ≡ listSize → k ≡ capacity
+  -- one that takes a turn: the codec loaded, its parts lent, and what comes back
+  pub turn-taken : (codec : Codec) (j k : ℕ) (t : Turned) (regs′ l′ q′ m′ : List ℕ) → runs (d .regs) i ≡ true → codec ≡ d .link .codec
+      → j ≡ listSize → k ≡ capacity
       → turnOut t regs′ l′ q′ m′
-      ≡ turnOf (d .regs) (d .link .codec) h (d .microphone) i nanos capacity (streamAt d i) (take j (drop (listSize * i) l)) (take k (drop (capacity * i) q)) m
+      ≡ turnOf (d .regs) codec h (d .microphone) i nanos capacity (streamAt d i) (take j (drop (listSize * i) l)) (take k (drop (capacity * i) q)) m
       → turnsOf (t .refused)
       (machine (withStream (withRegs d regs′) i (t .stream)) (t .host) (take (listSize * i) l ++ (l′ ++ drop j (drop (listSize * i) l)))
       (take (capacity * i) q ++ (q′ ++ drop k (drop (capacity * i) q))) m′)
       ≡ turnAt nanos i (turnsOf false (machine d h l q m))
   unfolding turnAt
-  turn-taken j k t regs′ l′ q′ m′ e ej ek et =
-      let et′ = rw (ej, ek) at et in
+  turn-taken codec j k t regs′ l′ q′ m′ e ec ej ek et =
+      let et′ = rw (ec, ej, ek) at et in
       rw (e, ej, ek, ← et′)
 
 -- every stream's list and queue within its limits
@@ -102,12 +104,13 @@ needs-again nanos i w y few needs e el eq =
     record { lists = omega (arith, needs .lists); queues = omega (arith, needs .queues); pending = within .pending; queued = within .queued }
 
 -- a round of the loop over the streams: after a turn with no refusal, and after one with a refusal
-module _ (nanos count i : ℕ) (x : Machine) (r : Served) (l q m : List ℕ) (few : i < count) (e : turnsAnswer r l q m ≡ turnAt nanos i (turnsOf false x)) where
+module _ (nanos count i : ℕ) (x : Machine) (r : Served) (device regs l q m : List ℕ) (few : i < count)
+    (e : turnsAnswer r device regs l q m ≡ turnAt nanos i (turnsOf false x)) where
   pub serve-step : (n : ℕ) → i + n ≡ count → r .refused ≡ false
       → (k : ℕ) × (i + 1 + k ≡ count)
       × (eachOf goesOn (turnAt nanos) n i (turnsOf false x)
-      ≡ eachOf goesOn (turnAt nanos) k (i + 1) (turnsOf false (machine (r .hda) (r .host) l q m)))
-  serve-step n en z = each-step goesOn (turnAt nanos) count i n _ (turnsOf false (machine (r .hda) (r .host) l q m)) en few (rw z at e) refl
+      ≡ eachOf goesOn (turnAt nanos) k (i + 1) (turnsOf false (machine (bankOf device regs (r .streams)) (r .host) l q m)))
+  serve-step n en z = each-step goesOn (turnAt nanos) count i n _ (turnsOf false (machine (bankOf device regs (r .streams)) (r .host) l q m)) en few (rw z at e) refl
 
-  pub serve-stop : (n : ℕ) → i + n ≡ count → r .refused ≡ true → turnsAnswer r l q m ≡ eachOf goesOn (turnAt nanos) n i (turnsOf false x)
+  pub serve-stop : (n : ℕ) → i + n ≡ count → r .refused ≡ true → turnsAnswer r device regs l q m ≡ eachOf goesOn (turnAt nanos) n i (turnsOf false x)
   serve-stop n en z = sym (each-stop goesOn (turnAt nanos) count i n _ _ en few e (ap not z))

@@ -8,14 +8,17 @@ use lib.Bits.{bitAnd}
 use Rattle.word.specs.Place.{wordAt}
 use Rattle.word.specs.Parts.{partOf, withPart}
 use Rattle.word.specs.Each.{eachOf}
+use Rattle.stream.specs.declared.Stream.{Stream}
 use Rattle.stream.specs.Streams.{places}
 use Rattle.stream.specs.Box.{streams}
 use Rattle.queue.specs.Queues.{capacity}
 use Rattle.host.specs.Hosts.{queueAt}
 use Rattle.registers.specs.Places.{ssync, ctl, byteAt, has}
 use Rattle.turn.specs.Turns.{Turn, turnOf}
-use Rattle.device.specs.Devices.{listSize, withRegs, withStream, streamAt}
+use Rattle.device.specs.declared.Hda.{Hda}
+use Rattle.device.specs.Devices.{listSize, hda, withRegs, withStream, streamAt}
 use Rattle.device.specs.Machines.{Machine, machine}
+use Rattle.record.specs.Loads.{deviceAt}
 use Rattle.serve.specs.declared.Served.{Served}
 
 -- a stream takes a turn where it runs, is not in reset, and its synchronization bit is clear
@@ -30,9 +33,13 @@ pub record Turns : Type 0 where
 abbrev pub turnsOf : Bool → Machine → Turns
 turnsOf refused x = record { refused = refused; machine = x }
 
--- the code's answer with the lent spaces and memory
-abbrev pub turnsAnswer : Served → List ℕ → List ℕ → List ℕ → Turns
-turnsAnswer r lists queues memory = turnsOf (r .refused) (machine (r .hda) (r .host) lists queues memory)
+-- the device in a record, with other registers and streams
+abbrev pub bankOf : List ℕ → List ℕ → List Stream → Hda
+bankOf device regs bank = let d = deviceAt device in hda (d .config) regs (d .link) bank (d .clock) (d .microphone) (d .paused) (d .asserted)
+
+-- the code's answer with the registers, the lent spaces and memory
+abbrev pub turnsAnswer : Served → List ℕ → List ℕ → List ℕ → List ℕ → List ℕ → Turns
+turnsAnswer r device regs lists queues memory = turnsOf (r .refused) (machine (bankOf device regs (r .streams)) (r .host) lists queues memory)
 
 -- what a turn of stream i left, put back
 abbrev pub takenOf : ℕ → Machine → Turn → Turns

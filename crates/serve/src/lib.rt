@@ -1,5 +1,5 @@
-// Every stream's turn in order, on the device (document 01, "`advance`, `write`, configuration, snapshot"; the loop of the Rust's `Hda::advance`).
-use device::Hda;
+// Every stream's turn in order, on a device that stands in its record (document 01, "`advance`, `write`, configuration, snapshot"; the loop of the Rust's
+// `Hda::advance`). The registers and the streams are taken out of it, since turns change them; the rest is read where it stands.
 use host::Host;
 use registers::Registers;
 use stream::STREAMS;
@@ -7,14 +7,16 @@ use stream::Stream;
 ghost use mathlib.Core.Path.{_≡_};
 ghost use mathlib.Core.Bool.{true, false};
 ghost use Prim.Native.Nat.{_<_};
+ghost use lib.ListN.{length};
 ghost use Rattle.stream.specs.Box.{streams};
 ghost use Rattle.device.specs.Machines.{machine};
-ghost use Rattle.serve.specs.Serve.{runs, turnsAnswer, turnsOf, turnAt, serveOf, ServeNeeds};
+ghost use Rattle.record.specs.Layout.{deviceSize};
+ghost use Rattle.serve.specs.Serve.{runs, bankOf, turnsAnswer, turnsOf, turnAt, serveOf, ServeNeeds};
 
-// What the streams' turns answer beside the lent spaces: whether an opening was refused, the device and the host end.
+// What the streams' turns answer beside the lent spaces and the registers: whether an opening was refused, the streams and the host end.
 pub struct Served {
     pub refused: bool,
-    pub hda: Hda,
+    pub streams: [Stream; STREAMS],
     pub host: Host,
 }
 
@@ -31,7 +33,9 @@ fn is_running(regs: &Registers, index: usize) -> bool
 
 // The turn of stream `index`, which takes one: its record taken out and put back, its parts of the lent spaces lent.
 fn turn_at(
-    mut hda: Hda,
+    device: &[u8],
+    regs: &mut Registers,
+    mut bank: [Stream; STREAMS],
     host: Host,
     lists: &mut [u8],
     queues: &mut [u8],
@@ -39,18 +43,19 @@ fn turn_at(
     nanos: u64,
     index: usize,
 ) -> Served
-    requires { ⌜ (index < streams) × (runs (hda .regs) index ≡ true) × ServeNeeds (machine hda host (now lists) (now queues) (now memory)) ⌝ }
-    ensures { λ r. ⌜ turnsAnswer r (now (lists .exit)) (now (queues .exit)) (now (memory .exit)) ≡ turnAt nanos index (turnsOf false (machine hda host (now (lists .entry)) (now (queues .entry)) (now (memory .entry)))) ⌝ }
+    requires { ⌜ (length (now device) ≡ deviceSize) × (index < streams) × (runs (now regs) index ≡ true) × ServeNeeds (machine (bankOf (now device) (now regs) bank) host (now lists) (now queues) (now memory)) ⌝ }
+    ensures { λ r. ⌜ turnsAnswer r (now (device .entry)) (now (regs .exit)) (now (lists .exit)) (now (queues .exit)) (now (memory .exit)) ≡ turnAt nanos index (turnsOf false (machine (bankOf (now (device .entry)) (now (regs .entry)) bank) host (now (lists .entry)) (now (queues .entry)) (now (memory .entry)))) ⌝ }
 {
     let list = Stream::LIST * index;
     let list_end = list + Stream::LIST;
     let part = Stream::QUEUE * index;
     let part_end = part + Stream::QUEUE;
-    let s = hda.streams[index];
-    let codec = hda.link.codec;
-    let microphone = hda.microphone;
+    let s = bank[index];
+    let link = record::load_link(device);
+    let codec = link.codec;
+    let microphone = device[4] == 1;
     let t = turn::turn(
-        &mut hda.regs,
+        regs,
         codec,
         host,
         microphone,
@@ -63,48 +68,50 @@ fn turn_at(
         memory,
     );
     let next = t.stream;
-    hda.streams[index] = next;
+    bank[index] = next;
     let end = t.host;
     Served {
         refused: t.refused,
-        hda: hda,
+        streams: bank,
         host: end,
     }
 }
 
 // Every stream in order, up to a refused opening.
 pub fn serve(
-    hda: Hda,
+    device: &[u8],
+    regs: &mut Registers,
+    bank: [Stream; STREAMS],
     host: Host,
     lists: &mut [u8],
     queues: &mut [u8],
     memory: &mut [u8],
     nanos: u64,
 ) -> Served
-    requires { ⌜ ServeNeeds (machine hda host (now lists) (now queues) (now memory)) ⌝ }
-    ensures { λ r. ⌜ turnsAnswer r (now (lists .exit)) (now (queues .exit)) (now (memory .exit)) ≡ serveOf nanos (machine hda host (now (lists .entry)) (now (queues .entry)) (now (memory .entry))) ⌝ }
+    requires { ⌜ (length (now device) ≡ deviceSize) × ServeNeeds (machine (bankOf (now device) (now regs) bank) host (now lists) (now queues) (now memory)) ⌝ }
+    ensures { λ r. ⌜ turnsAnswer r (now (device .entry)) (now (regs .exit)) (now (lists .exit)) (now (queues .exit)) (now (memory .exit)) ≡ serveOf nanos (machine (bankOf (now (device .entry)) (now (regs .entry)) bank) host (now (lists .entry)) (now (queues .entry)) (now (memory .entry))) ⌝ }
 {
     let count = STREAMS;
-    let mut d = hda;
+    let mut b = bank;
     let mut h = host;
     let mut index = 0;
     while index < count {
-        // Here and not in the turn: a device that is handed on costs a copy.
-        if !is_running(&d.regs, index) {
+        // Here and not in the turn: streams and a host end that are handed on cost a copy.
+        if !is_running(regs, index) {
             index += 1;
             continue;
         }
-        let r = turn_at(d, h, lists, queues, memory, nanos, index);
+        let r = turn_at(device, regs, b, h, lists, queues, memory, nanos, index);
         if r.refused {
             return r;
         }
-        d = r.hda;
+        b = r.streams;
         h = r.host;
         index += 1;
     }
     Served {
         refused: false,
-        hda: d,
+        streams: b,
         host: h,
     }
 }

@@ -1,57 +1,53 @@
--- `advance` meets its contract: refused by the check, or done. Assumes nothing.
-use mathlib.Core.Path.{_∙_}
+-- `advance` meets its contract: refused by the check, time that stands still, or done. Assumes nothing.
+use mathlib.Core.Path.{sym, ap, _∙_}
 use borrow.Author.Needs.{needs}
-use Rattle.advance.proofs.Outcomes.{advance-refused, advance-on, step-needs}
+use borrow.Author.Tests.{not-true}
+use Rattle.advance.specs.Advance.{leftBy}
+use Rattle.advance.proofs.Outcomes.{advance-refused, advance-on, advance-still, step-needs}
 use Rattle.advance.proofs.advance.Statement.{statement}
 use Rattle.advance.proofs.advance.Tie as tie
 
-check-requires : tie.Need-check-requires
-check-requires c κs = search needs
-
-answer-requires : tie.Need-answer-requires
-answer-requires c κs = search needs
-
-same-length : tie.Need-same-length
-same-length c = search needs
-
 returns : tie.Need-returns
 returns c =
-    let a = c .before .before .before .before .before .before .before .args in
-    advance-refused (a .nanos) (a .hda) (a .host) (a .lists .now) (a .queues .now) (a .memory .now) _ (c .before .before .check .ensures) _ (c .before .if1 .taken)
-    (c .answer .ensures)
-
-advance-step-requires : tie.Need-advance-step-requires
-advance-step-requires c κs =
-    let a = c .before .before .before .before .before .before .before .before .before .args in
-    step-needs (a .nanos) (a .hda) (a .host) (a .lists .now) (a .queues .now) (a .memory .now) _ (c .before .before .before .before .check .ensures) (c .before .before .before .if1 .left)
-
-same-length-2 : tie.Need-same-length-2
-same-length-2 c = search needs
-
-same-length-3 : tie.Need-same-length-3
-same-length-3 c = search needs
-
-same-length-4 : tie.Need-same-length-4
-same-length-4 c = search needs
+    let k = c .before .before .before in
+    let known = k .before .before .before .before .before .before in
+    let start = known .before in
+    let a = start .args in
+    advance-refused (a .nanos) (a .device .now) (start .pre .1) (λ i. known .slice-known .given i .fits) (a .host) (a .lists .now) (a .queues .now) (a .memory .now) (k .check .result) (k .check .ensures) (c .unchanged .result) (c .before .before .if1 .taken) (c .unchanged .ensures)
 
 returns-2 : tie.Need-returns-2
 returns-2 c =
-    let s = c .before .before .before .before .before .before in
-    let k = s .before .before .before .before .before in
-    let a = c .before .before .before .before .before .before .before .before .before .before .before .before .before .before .before .before .args in
-    s .advance-step .ensures
-    ∙ advance-on (a .nanos) (a .hda) (a .host) (a .lists .now) (a .queues .now) (a .memory .now) _ (k .check .ensures) (s .before .before .before .before .if1 .left)
+    let k = c .before .before .before .before .before .before in
+    let known = k .before .before .before .before .before .before in
+    let start = known .before in
+    let a = start .args in
+    advance-still (a .nanos) (a .device .now) (start .pre .1) (λ i. known .slice-known .given i .fits) (a .host) (a .lists .now) (a .queues .now) (a .memory .now) (k .check .result) (k .check .ensures) (c .before .before .before .before .before .if1 .left) (c .unchanged2 .result)
+    (sym (c .before .before .before .is-still .ensures) ∙ c .before .before .if2 .taken) (c .unchanged2 .ensures)
+
+advance-step-requires : tie.Need-advance-step-requires
+advance-step-requires c κs =
+    let k = c .before .before .before .before .before .before .before .before in
+    let known = k .before .before .before .before .before .before in
+    let start = known .before in
+    let a = start .args in
+    let n = step-needs (a .nanos) (a .device .now) (start .pre .1) (λ i. known .slice-known .given i .fits) (a .host) (a .lists .now) (a .queues .now) (a .memory .now) (k .check .result) (k .check .ensures) (c .before .before .before .before .before .before .before .if1 .left) in
+    (start .pre .0, start .pre .1, sym (c .before .before .before .before .before .is-still .ensures) ∙ c .before .before .before .before .if2 .left, n .0, n .1)
+
+returns-3 : tie.Need-returns-3
+returns-3 c =
+    let k = c .before .before .before .before .before .before .before .before .before .before .before .before .before .before .before .before .before in
+    let known = k .before .before .before .before .before .before in
+    let start = known .before in
+    let a = start .args in
+    c .before .before .before .before .before .before .before .before .advance-step .ensures
+    ∙ ap leftBy (advance-on (a .nanos) (a .device .now) (start .pre .1) (λ i. known .slice-known .given i .fits) (a .host) (a .lists .now) (a .queues .now) (a .memory .now) (k .check .result) (k .check .ensures) (c .before .before .before .before .before .before .before .before .before .before .before .before .before .before .before .before .if1 .left))
 
 pub advance-spec : {M : Type 1} → statement M
 advance-spec =
     tie.close
     (tie.spec
-    check-requires
-    answer-requires
-    same-length
-    returns
+    (λ c κs. search needs) (λ c κs. search needs) (λ c. search needs) (λ c. search needs) returns (λ c κs. search needs) (λ c κs. search needs) (λ c. search needs) (λ c. search needs) returns-2
     advance-step-requires
-    same-length-2
-    same-length-3
-    same-length-4
-    returns-2)
+    -- the slices' lengths
+    (λ c. search needs) (λ c. search needs) (λ c. search needs) (λ c. search needs)
+    returns-3)

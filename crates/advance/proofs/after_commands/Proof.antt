@@ -1,59 +1,39 @@
 -- `after_commands` meets its contract. Assumes nothing.
-use mathlib.Core.Path.{sym, _∙_}
+use mathlib.Core.Path.{_∙_}
+use native.Mathlib.Omega.{arith}
 use borrow.Author.Needs.{needs}
-use borrow.Author.Tests.{not-true, not-false}
-use Rattle.advance.proofs.Outcomes.{dma-off, dma-on}
+use Rattle.advance.proofs.Outcomes.{turns-need, after-done}
 use Rattle.advance.proofs.after_commands.Statement.{statement}
 use Rattle.advance.proofs.after_commands.Tie as tie
 
-dma-enabled-requires : tie.Need-dma-enabled-requires
-dma-enabled-requires c κs = search needs
+turns-requires : tie.Need-turns-requires
+turns-requires c κs =
+    let start = c .before .before .before .before .before .before .before .before .before .before .before .before .before .before in
+    let a = start .args in
+    let bank = c .before .before .before .before .before .load-streams in
+    (start .pre .0, turns-need (a .nanos) (a .device .now) (a .config .now) (a .regs .now) (start .pre .2) (a .host) (a .lists .now) (a .queues .now) (a .memory .now) (bank .result) (bank .ensures) (start .pre .3))
 
-finish-requires : tie.Need-finish-requires
-finish-requires c κs = search needs
+replace-streams-requires : tie.Need-replace-streams-requires
+replace-streams-requires c κs = let e = c .before .before .before .before .finish in (e .kept .0 ∙ c .before .before .before .before .before .before .before .before .before .before .before .before .before .before .before .before .before .before .before .before .before .before .before .before .before .before .before .before .before .pre .0, e .ensures .1 .device)
 
 returns : tie.Need-returns
 returns c =
-    let a = c .before .before .before .before .before .before .before .before .before .before .args in
-    dma-off (a .nanos) (a .t1) (a .host) (a .lists .now) (a .queues .now) (a .memory .now) _
-    (sym (c .before .before .dma-enabled .ensures) ∙ not-true _ (c .before .if1 .taken)) (c .finish .ensures)
-
-serve-requires : tie.Need-serve-requires
-serve-requires c κs = search needs
-
-number-of-requires : tie.Need-number-of-requires
-number-of-requires c κs = search needs
-
-finish-requires-2 : tie.Need-finish-requires-2
-finish-requires-2 c κs = search needs
-
-same-length : tie.Need-same-length
-same-length c = search needs
-
-same-length-2 : tie.Need-same-length-2
-same-length-2 c = search needs
-
-same-length-3 : tie.Need-same-length-3
-same-length-3 c = search needs
-
-returns-2 : tie.Need-returns-2
-returns-2 c =
-    let s = c .before .before .before .before .before .before .before .before .before .before in
-    let a = c .before .before .before .before .before .before .before .before .before .before .before .before .before .before .before .before .before .before .before .before .before .before .before .args in
-    dma-on (a .nanos) (a .t1) (a .host) (a .lists .now) (a .queues .now) (a .memory .now) (s .serve .result) _ _ _ (c .before .number-of .result) _
-    (sym (s .before .before .before .before .before .dma-enabled .ensures) ∙ not-false _ (s .before .before .before .before .if1 .left)) (s .serve .ensures) (c .before .number-of .ensures) (c .finish2 .ensures)
+    let put = c .before .before .before .before .replace-streams in
+    let e = c .before .before .before .before .before .before .before .before .before .finish in
+    let t = c .before .before .before .before .before .before .before .before .before .before .before .before .before .before .before .before .before .before .before .turns in
+    let bank = c .before .before .before .before .before .before .before .before .before .before .before .before .before .before .before .before .before .before .before .before .before .before .before .before .before .load-streams in
+    let dma = c .before .before .before .before .before .before .before .before .before .before .before .before .before .before .before .before .before .before .before .before .before .before .before .before .before .before .before .dma-enabled in
+    let start = c .before .before .before .before .before .before .before .before .before .before .before .before .before .before .before .before .before .before .before .before .before .before .before .before .before .before .before .before .before .before .before .before .before .before in
+    let a = start .args in
+    after-done (a .nanos) (a .device .now) (a .config .now) (a .regs .now) (start .pre .2) (a .host) (a .lists .now) (a .queues .now) (a .memory .now) (dma .result) (dma .ensures) (t .result)
+    (t .last .1 .1 .0) (t .last .1 .1 .1 .1 .1 .0) (t .last .1 .1 .1 .1 .1 .1 .0) (t .last .1 .1 .1 .1 .1 .1 .1 .0) (e .result) (e .last .0) (e .last .1 .0) (e .last .1 .1 .0) (e .ensures .0)
+    (e .ensures .1) (put .last .0) (put .ensures) (c .number-of .result) (c .number-of .ensures) (bank .result) (bank .ensures) (t .ensures)
 
 pub after-commands-spec : {M : Type 1} → statement M
 after-commands-spec =
     tie.close
     (tie.spec
-    dma-enabled-requires
-    finish-requires
-    returns
-    serve-requires
-    number-of-requires
-    finish-requires-2
-    same-length
-    same-length-2
-    same-length-3
-    returns-2)
+    (λ c κs. search needs) (λ c κs. omega arith) turns-requires (λ c κs. search needs) replace-streams-requires (λ c κs. search needs)
+    -- the slices' lengths
+    (λ c. search needs) (λ c. search needs) (λ c. search needs) (λ c. search needs)
+    returns)

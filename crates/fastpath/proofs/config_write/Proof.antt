@@ -25,24 +25,23 @@ returns-3 c =
 
 conclude-requires : tie.Need-conclude-requires
 conclude-requires c κs =
-    let link = c .before .load-link in
-    let k = c .before .before .before .before .before .before .before .before .before .before .before .before .before .before .before .check in
-    let start = c .before .before .before .before .before .before .before .before .before .before .before .before .before .before .before .before .before .before .before .before .before .before in
+    let k = c .before .before .before .before .before .before .before .before .before .before .before .before .before in
+    let start = k .before .before .before .before .before .before .before in
     let a = start .args in
-    (start .pre .0, start .pre .1, config-few (a .device .now) (a .lists .now) (a .queues .now) (a .memory .now) (a .host) (k .result) (k .ensures) (a .register) (a .offset) (a .bytes .now) (c .before .before .before .before .before .before .before .before .before .before .before .before .before .before .if1 .left) (link .result) (link .ensures))
+    (start .pre .0, start .pre .1, config-few (a .device .now) (a .lists .now) (a .queues .now) (a .memory .now) (a .host) (k .check .result) (k .check .ensures) (a .register) (a .offset) (a .bytes .now) (c .before .before .before .before .before .before .before .before .before .before .before .before .if1 .left))
 
 returns-4 : tie.Need-returns-4
 returns-4 c =
     let z = c .before .before .before .before .conclude in
-    let link = c .before .before .before .before .before .before .load-link in
-    let regs = c .before .before .before .before .before .before .before .before .before .before .before .load-block2 in
-    let w = c .before .before .before .before .before .before .before .before .before .before .before .before .before .write in
-    let old = c .before .before .before .before .before .before .before .before .before .before .before .before .before .before .before .load-block in
-    let k = c .before .before .before .before .before .before .before .before .before .before .before .before .before .before .before .before .before .before .before .before .check in
-    let a = c .before .before .before .before .before .before .before .before .before .before .before .before .before .before .before .before .before .before .before .before .before .before .before .before .before .before .before .args in
-    config-done (a .device .now) (a .lists .now) (a .queues .now) (a .memory .now) (a .host) (k .result) (k .ensures) (a .register) (a .offset) (a .bytes .now) (c .before .before .before .before .before .before .before .before .before .before .before .before .before .before .before .before .before .before .before .if1 .left) (link .result) (link .ensures) (omega (arith, c .before .before .before .before .before .before .before .before .before .before .before .before .before .before .before .before .before .if3 .left, c .before .before .before .before .before .before .before .before .before .before .before .before .before .before .before .before .before .before .if2 .left))
-    (old .result) (w .last .0) (regs .result) (old .ensures) (w .ensures) (regs .ensures)
-    (z .result) (z .last .0) (z .last .1 .1 .1 .1 .0) (z .last .1 .0) (z .last .1 .1 .0) (z .ensures)
+    let regs = c .before .before .before .before .before .before .before .before .before .load-block2 in
+    let w = c .before .before .before .before .before .before .before .before .before .before .before .write in
+    let old = c .before .before .before .before .before .before .before .before .before .before .before .before .before .load-block in
+    let tests = c .before .before .before .before .before .before .before .before .before .before .before .before .before .before .before in
+    let k = tests .before .before .before in
+    let a = k .before .before .before .before .before .before .before .args in
+    config-done (a .device .now) (a .lists .now) (a .queues .now) (a .memory .now) (a .host) (k .check .result) (k .check .ensures) (a .register) (a .offset) (a .bytes .now) (tests .before .before .if1 .left)
+    (omega (arith, tests .if3 .left, tests .before .if2 .left)) (old .result) (w .last .0) (regs .result) (old .ensures) (w .ensures) (regs .ensures)
+    (z .result) (z .last .0) (z .last .1 .1 .1 .0) (z .last .1 .0) (z .last .1 .1 .0) (z .ensures)
 
 pub config-write-spec : {M : Type 1} → statement M
 config-write-spec =
@@ -55,7 +54,7 @@ config-write-spec =
     returns-2
     (λ c. search needs) (λ c. search needs) (λ c κs. search needs) (λ c. search needs)
     returns-3
-    (λ c κs. search needs) (λ c. search needs) (λ c. search needs) (λ c κs. search needs) (λ c κs. search needs) (λ c κs. search needs)
+    (λ c κs. search needs) (λ c. search needs) (λ c. search needs) (λ c κs. search needs) (λ c κs. search needs)
     conclude-requires
     (λ c. search needs) (λ c. search needs)
     returns-4)

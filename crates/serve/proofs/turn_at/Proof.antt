@@ -1,10 +1,14 @@
--- `turn_at` meets its contract. Assumes nothing.
+-- `turn_at` meets its contract: the codec and the microphone are the record's. Assumes nothing.
 use Prim.Native.Nat.{_+_, _-_, _*_}
+use mathlib.Core.Path.{ap}
 use native.Mathlib.Omega.{arith}
 use borrow.Author.Needs.{needs}
 use Rattle.stream.specs.Streams.{freshOf}
 use Rattle.queue.specs.Queues.{capacity}
+use Rattle.rings.specs.declared.Link.{Link}
 use Rattle.device.specs.Devices.{listSize}
+use Rattle.record.specs.Loads.{deviceAt}
+use Rattle.serve.specs.Serve.{bankOf}
 use Rattle.serve.proofs.Turns.{turn-needs, turn-taken}
 use Rattle.serve.proofs.turn_at.Statement.{statement}
 use Rattle.serve.proofs.turn_at.Tie as tie
@@ -24,8 +28,14 @@ add-part-end c = search needs
 mul-s : tie.Need-mul-s
 mul-s c = search needs
 
-element-copy-out-s : tie.Need-element-copy-out-s
-element-copy-out-s c = search needs
+array-copy-out-s : tie.Need-array-copy-out-s
+array-copy-out-s c = search needs
+
+load-link-requires : tie.Need-load-link-requires
+load-link-requires c κs = search needs
+
+shared-slice-read-microphone : tie.Need-shared-slice-read-microphone
+shared-slice-read-microphone c = search needs
 
 cast-turn : tie.Need-cast-turn
 cast-turn c = search needs
@@ -51,15 +61,15 @@ part-turn-end-2 c = search needs
 turn-requires : tie.Need-turn-requires
 unfolding freshOf
 turn-requires c κs =
-    let s = c .before .before .before .before .before .before .before .before .before in
+    let s = c .before .before .before .before .before .before .before .before .before .before .before .before in
     let i = s .args .index in
-    turn-needs _ i (listSize * i + listSize - listSize * i) (capacity * i + capacity - capacity * i) (s .pre .2) (s .pre .0) (omega arith) (omega arith)
+    turn-needs _ i (listSize * i + listSize - listSize * i) (capacity * i + capacity - capacity * i) (s .pre .3) (s .pre .1) (omega arith) (omega arith)
 
-mul-next : tie.Need-mul-next
-mul-next c = omega (arith, c .before .before .before .before .before .before .before .before .before .before .before .before .before .before .before .before .before .pre .0)
+mul-bank : tie.Need-mul-bank
+mul-bank c = omega (arith, c .before .before .before .before .before .before .before .before .before .before .before .before .before .before .before .before .before .before .before .before .pre .1)
 
-element-set-from-next : tie.Need-element-set-from-next
-element-set-from-next c = search (needs, c .before .before .before .before .before .before .before .before .before .before .before .before .before .before .before .before .before .pre .0)
+array-set-from-bank : tie.Need-array-set-from-bank
+array-set-from-bank c = search (needs, c .before .before .before .before .before .before .before .before .before .before .before .before .before .before .before .before .before .before .before .before .pre .1)
 
 same-length : tie.Need-same-length
 same-length c = search needs
@@ -71,15 +81,17 @@ same-length-3 : tie.Need-same-length-3
 same-length-3 c = search needs
 
 returns : tie.Need-returns
-unfolding freshOf
+unfolding freshOf deviceAt
 returns c =
     let p = c .before .before .before .before .before .before .before .before in
     let o = p .turn .last .1 .1 .1 .1 .1 .1 .1 .1 in
-    let start = c .before .before .before .before .before .before .before .before .before .before .before .before .before .before .before .before .before .before in
+    let loaded = p .before .before .before .before .before .before .before .load-link in
+    let start = c .before .before .before .before .before .before .before .before .before .before .before .before .before .before .before .before .before .before .before .before .before in
     let a = start .args in
     let i = a .index in
-    turn-taken (a .nanos) i (a .t1) (a .host) (a .lists .now) (a .queues .now) (a .memory .now) (listSize * i + listSize - listSize * i)
-    (capacity * i + capacity - capacity * i) (p .turn .result) (p .turn .last .0) (o .0) (o .1 .0) (o .1 .1 .0) (start .pre .1) (omega arith) (omega arith) (p .turn .ensures)
+    turn-taken (a .nanos) i (bankOf (a .device .now) (a .regs .now) (a .t3)) (a .host) (a .lists .now) (a .queues .now) (a .memory .now) (loaded .result .codec)
+    (listSize * i + listSize - listSize * i) (capacity * i + capacity - capacity * i) (p .turn .result) (p .turn .last .0) (o .0) (o .1 .0) (o .1 .1 .0)
+    (start .pre .2) (ap (λ (l : Link). l .codec) (loaded .ensures)) (omega arith) (omega arith) (p .turn .ensures)
 
 pub turn-at-spec : {M : Type 1} → statement M
 turn-at-spec =
@@ -90,7 +102,9 @@ turn-at-spec =
     mul-part
     add-part-end
     mul-s
-    element-copy-out-s
+    array-copy-out-s
+    load-link-requires
+    shared-slice-read-microphone
     cast-turn
     sub-turn
     part-turn-start
@@ -99,8 +113,8 @@ turn-at-spec =
     part-turn-start-2
     part-turn-end-2
     turn-requires
-    mul-next
-    element-set-from-next
+    mul-bank
+    array-set-from-bank
     same-length
     same-length-2
     same-length-3
