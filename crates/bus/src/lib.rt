@@ -2,9 +2,11 @@
 use registers::Registers;
 use rings::Link;
 ghost use mathlib.Core.Path.{_≡_};
+ghost use mathlib.Core.Bool.{true};
 ghost use Prim.Native.Nat.{_<_};
+ghost use lib.ListN.{length};
 ghost use Rattle.registers.specs.Places.{size};
-ghost use Rattle.bus.specs.Bus.{frontOf, byteOf, plainOf, bytesOf};
+ghost use Rattle.bus.specs.Bus.{frontOf, byteOf, plainOf, missesOf, plainWrite, bytesOf};
 
 // A byte of the file.
 fn write_byte(regs: &mut Registers, link: Link, a: usize, byte: u8) -> Link
@@ -64,4 +66,41 @@ pub fn write(regs: &mut Registers, link: Link, offset: u64, bytes: &[u8]) -> Lin
         l = next;
     }
     l
+}
+
+// Whether `count` bytes from `offset` on leave out a place.
+fn misses(offset: u64, count: usize, place: u64) -> bool
+    ensures { λ r. ⌜ r ≡ missesOf offset count place ⌝ }
+{
+    if place < offset {
+        return true;
+    }
+    count as u64 <= place - offset
+}
+
+// Whether a write changes the registers alone.
+pub fn is_plain_write(offset: u64, count: usize) -> bool
+    ensures { λ r. ⌜ r ≡ plainWrite offset count ⌝ }
+{
+    misses(offset, count, registers::RIRBWP as u64 + 1)
+        & misses(offset, count, registers::ICIS as u64)
+}
+
+// The bytes of such a write in order from `offset` on: whatever the link is, it stays.
+pub fn write_plain(regs: &mut Registers, offset: u64, bytes: &[u8])
+    requires { ⌜ plainWrite offset (length (now bytes)) ≡ true ⌝ }
+    ensures { λ _. ⌜ ((l : Link) → frontOf (now (regs .exit)) l ≡ bytesOf (frontOf (now (regs .entry)) l) offset (now (bytes .entry))) ⌝ }
+{
+    let mut at = offset;
+    let mut i = 0;
+    while i < bytes.len() {
+        if at >= registers::SIZE as u64 {
+            return;
+        }
+        let a = at as usize;
+        let value = bytes[i];
+        at += 1;
+        i += 1;
+        registers::write_byte(regs, a, value);
+    }
 }

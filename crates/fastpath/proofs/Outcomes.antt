@@ -6,9 +6,9 @@ use mathlib.Core.List.{List}
 use mathlib.Core.Logic.{_≢_}
 use native.Mathlib.Omega.{arith}
 use borrow.Author.Tests.{eq-eqb, ne-eqb, lt-ltb, le-ltb}
+use lib.ListN.{length}
 use Rattle.rings.specs.declared.Link.{Link}
-use Rattle.bus.specs.Bus.{Front, frontOf, bytesOf}
-use Rattle.bus.proofs.Facts.{responses-fall}
+use Rattle.bus.specs.Bus.{Front, frontOf, plainWrite, bytesOf}
 use Rattle.configuration.specs.Configuration as pci
 use Rattle.host.specs.declared.Host.{Host}
 use Rattle.device.specs.declared.Hda.{Hda}
@@ -18,7 +18,7 @@ use Rattle.settle.specs.Settle.{ports}
 use Rattle.write.specs.Writes.{writtenOf, tailedOf, writeStep, writeOf}
 use Rattle.write.proofs.Checked.{few}
 use Rattle.hda.specs.Calls.{configured, configWriteStep, configWriteOf}
-use Rattle.record.specs.Loads.{blockAt, linkAt, deviceAt, Holds}
+use Rattle.record.specs.Loads.{blockAt, linkAt, deviceAt}
 use Rattle.in_place.specs.Steps.{partsOf, endOf}
 use Rattle.fastpath.specs.declared.Quick.{Quick}
 use Rattle.fastpath.specs.Quick.{leftAlone, Tried, tried, carriedOut, quietOf, writeBy, configWriteBy, alignedOf, Concluded, concluded, concludedOf}
@@ -32,11 +32,7 @@ tailed : (x : Machine) (d : Hda) → triedOf (concludedOf d (x .memory)) ≡ car
 unfolding concludedOf endOf finishOf answerOf
 tailed x d = refl
 
--- parts of the device in a record
-link-of : (b : List ℕ) → linkAt b ≡ deviceAt b .link
-unfolding deviceAt
-link-of b = refl
-
+-- the configuration of the device in a record
 config-of : (b : List ℕ) → blockAt 6 b ≡ deviceAt b .config
 unfolding deviceAt
 config-of b = refl
@@ -51,12 +47,17 @@ module _ (device lists queues memory : List ℕ) (host : Host) where
       unfolding writeBy
       write-refused z q eq = rw (eq, ← e, ne-eqb n 0 z)
 
-      -- `old` and `link` are the record's, `regs` and `next` what the write's bytes left of them
-      module _ (z : n ≡ 0) (old regs : List ℕ) (link next : Link) (eo : old ≡ blockAt 262 device) (el : link ≡ linkAt device)
-          (ew : frontOf regs next ≡ alignedOf (bytesOf (frontOf old link) offset bytes)) where
-        front : frontOf regs next ≡ alignedOf (bytesOf (frontOf (deviceAt device .regs) (deviceAt device .link)) offset bytes)
+      -- a byte may reach the codec
+      pub write-reaching : n ≡ 0 → plainWrite offset (length bytes) ≡ false → (q : Quick) → q ≡ leftAlone → tried q device memory ≡ writeBy offset bytes device at
+      unfolding writeBy
+      write-reaching z t q eq = rw (eq, ← e, eq-eqb n 0 z, t)
+
+      -- `old` is the record's file, `regs` what the write's bytes left of it
+      module _ (z : n ≡ 0) (plain : plainWrite offset (length bytes) ≡ true) (old regs : List ℕ) (eo : old ≡ blockAt 262 device)
+          (ew : (l : Link) → frontOf regs l ≡ alignedOf (bytesOf (frontOf old l) offset bytes)) where
+        front : frontOf regs (deviceAt device .link) ≡ alignedOf (bytesOf (frontOf (deviceAt device .regs) (deviceAt device .link)) offset bytes)
         unfolding deviceAt
-        front = ew ∙ rw (eo, el)
+        front = ew (deviceAt device .link) ∙ rw eo
 
         written : regs ≡ writtenOf (deviceAt device) offset bytes .regs
         unfolding writtenOf
@@ -66,34 +67,27 @@ module _ (device lists queues memory : List ℕ) (host : Host) where
         unfolding deviceAt
         same-quiet = rw (eo, written)
 
-        pub next-few : next .responses ≤ 255
-        next-few =
-            let d : Hda = deviceAt device in
-            let here : next ≡ bytesOf (frontOf (d .regs) (d .link)) offset bytes .link = ap (λ (f : Front). f .link) front in
-            rw here (omega (arith, responses-fall (frontOf (d .regs) (d .link)) offset bytes, few at n e z))
+        pub write-few : linkAt device .responses ≤ 255
+        unfolding deviceAt
+        write-few = few at n e z
 
         pub write-left : quietOf old regs ≡ false → (q : Quick) → q ≡ leftAlone → tried q device memory ≡ writeBy offset bytes device at
         unfolding writeBy
-        write-left t q eq = rw (eq, ← e, eq-eqb n 0 z, ← same-quiet, t)
+        write-left t q eq = rw (eq, ← e, eq-eqb n 0 z, plain, ← same-quiet, t)
 
-        -- `linked` is the record with the link that they left, `config` its configuration
-        module _ (linked : List ℕ) (held : Holds linked (withLink (deviceAt device) next)) where
-          pub linked-few : linkAt linked .responses ≤ 255
-          linked-few = let own : linkAt linked .responses ≡ next .responses = ap (λ (l : Link). l .responses) (link-of linked) ∙ ap (λ (d : Hda). d .link .responses) (held .same) in omega (arith, own, next-few)
+        parts : (config : List ℕ) → config ≡ blockAt 6 device → partsOf device config regs ≡ writtenOf (deviceAt device) offset bytes
+        unfolding writtenOf
+        parts config ec = rw (ec, config-of device) (ap (λ (f : Front). withLink (withRegs (deviceAt device) (f .regs)) (f .link)) front)
 
-          parts : (config : List ℕ) → config ≡ blockAt 6 linked → partsOf linked config regs ≡ writtenOf (deviceAt device) offset bytes
-          unfolding writtenOf
-          parts config ec = rw (ec, config-of linked, held .same) (ap (λ (f : Front). withLink (withRegs (deviceAt device) (f .regs)) (f .link)) front)
-
-          pub write-done : quietOf old regs ≡ true → (config : List ℕ) → config ≡ blockAt 6 linked → (q : Quick) (device₁ memory₁ config₁ regs₁ : List ℕ)
-              → concluded q device₁ memory₁ config₁ regs₁ ≡ concludedOf (partsOf linked config regs) memory
-              → tried q device₁ memory₁ ≡ writeBy offset bytes device at
-          unfolding writeBy writeOf writeStep
-          write-done t config ec q device₁ memory₁ config₁ regs₁ ez =
-              let d : Hda = writtenOf (deviceAt device) offset bytes in
-              let quiet : quietOf (deviceAt device .regs) (d .regs) ≡ true = sym same-quiet ∙ t in
-              rw (← e, eq-eqb n 0 z, quiet, quiet-tail (deviceAt device .regs) (ports d host) quiet)
-              (ap triedOf (ez ∙ ap (λ (y : Hda). concludedOf y memory) (parts config ec)) ∙ tailed at d)
+        pub write-done : quietOf old regs ≡ true → (config : List ℕ) → config ≡ blockAt 6 device → (q : Quick) (device₁ memory₁ config₁ regs₁ : List ℕ)
+            → concluded q device₁ memory₁ config₁ regs₁ ≡ concludedOf (partsOf device config regs) memory
+            → tried q device₁ memory₁ ≡ writeBy offset bytes device at
+        unfolding writeBy writeOf writeStep
+        write-done t config ec q device₁ memory₁ config₁ regs₁ ez =
+            let d : Hda = writtenOf (deviceAt device) offset bytes in
+            let quiet : quietOf (deviceAt device .regs) (d .regs) ≡ true = sym same-quiet ∙ t in
+            rw (← e, eq-eqb n 0 z, plain, quiet, quiet-tail (deviceAt device .regs) (ports d host) quiet)
+            (ap triedOf (ez ∙ ap (λ (y : Hda). concludedOf y memory) (parts config ec)) ∙ tailed at d)
 
     module _ (register offset : ℕ) (bytes : List ℕ) where
       pub config-refused : n ≢ 0 → (q : Quick) → q ≡ leftAlone → tried q device memory ≡ configWriteBy register offset bytes device at

@@ -4,7 +4,9 @@ use mathlib.Core.Path.{_≡_, sym, ap, _∙_}
 use mathlib.Core.Bool.{Bool, true, false, cond, true≢false, _&&_}
 use mathlib.Core.List.{List}
 use lib.Dec.{eqb, ltb}
+use lib.ListN.{length}
 use Rattle.queue.proofs.Tests.{left, right, by-cond}
+use Rattle.bus.specs.Bus.{plainWrite}
 use Rattle.device.specs.Machines.{Machine, Done, checkMachine, answerOf, finishOf}
 use Rattle.settle.specs.Settle.{ports}
 use Rattle.write.specs.Writes.{writtenOf, writeStep, writeOf}
@@ -40,13 +42,13 @@ module _ (device : List ℕ) (x : Machine) (z : Done) (y : Tried) where
 -- a write to the registers
 module _ (offset : ℕ) (bytes device : List ℕ) (x : Machine) (y : Tried) (e : y ≡ writeBy offset bytes device x) where
   abbrev quietly : Bool
-  quietly = eqb (checkMachine x) 0 && quietOf (x .hda .regs) (writtenOf (x .hda) offset bytes .regs)
+  quietly = eqb (checkMachine x) 0 && (plainWrite offset (length bytes) && quietOf (x .hda .regs) (writtenOf (x .hda) offset bytes .regs))
 
   light-write : quietly ≡ true → Light x (writeOf offset bytes x)
   unfolding writeOf writeStep finishOf answerOf
   light-write t =
       let passed = left (eqb (checkMachine x) 0) _ t in
-      let quiet = right (eqb (checkMachine x) 0) _ t in
+      let quiet = right (plainWrite offset (length bytes)) _ (right (eqb (checkMachine x) 0) _ t) in
       let stays = quiet-tail (x .hda .regs) (ports (writtenOf (x .hda) offset bytes) (x .host)) quiet in
       record { number = rw (passed); host = rw (passed, stays); lists = rw passed; queues = rw passed }
 

@@ -2,11 +2,12 @@
 use Prim.Native.Nat.{ℕ, zero, suc, _+_, _*_, _^_}
 use mathlib.Core.Bool.{Bool, true, false, cond, not, _&&_}
 use mathlib.Core.List.{List}
+use lib.ListN.{length}
 use lib.Dec.{eqb, ltb}
 use Rattle.stream.specs.Box.{streams}
 use Rattle.registers.specs.Places.{gctl, ctl, byteAt, has}
 use Rattle.registers.specs.Writes.{alignOf}
-use Rattle.bus.specs.Bus.{Front, frontOf}
+use Rattle.bus.specs.Bus.{Front, frontOf, plainWrite}
 use Rattle.pci.specs.declared.Msi.{Msi}
 use Rattle.pci.specs.declared.Msi.the-variants.{None}
 use Rattle.device.specs.declared.Hda.{Hda}
@@ -51,10 +52,10 @@ stayFrom (suc n) i old regs = staysOf (byteAt old (ctl i)) (byteAt regs (ctl i))
 unfoldable pub quietOf : List ℕ → List ℕ → Bool
 quietOf old regs = same (has 1 (byteAt old gctl)) (has 1 (byteAt regs gctl)) && (not (has 2 (byteAt regs gctl)) && stayFrom streams 0 old regs)
 
--- a write to the registers, and one to the configuration, whose address may not pass 64 bits
+-- a write to the registers that leaves the codec alone, and one to the configuration, whose address may not pass 64 bits
 unfoldable pub writeBy : ℕ → List ℕ → List ℕ → Machine → Tried
 writeBy offset bytes device x =
-    cond (eqb (checkMachine x) 0 && quietOf (x .hda .regs) (writtenOf (x .hda) offset bytes .regs)) (carriedOut (writeOf offset bytes x)) (tried leftAlone device (x .memory))
+    cond (eqb (checkMachine x) 0 && (plainWrite offset (length bytes) && quietOf (x .hda .regs) (writtenOf (x .hda) offset bytes .regs))) (carriedOut (writeOf offset bytes x)) (tried leftAlone device (x .memory))
 
 unfoldable pub configWriteBy : ℕ → ℕ → List ℕ → List ℕ → Machine → Tried
 configWriteBy register offset bytes device x =

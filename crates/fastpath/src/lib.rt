@@ -1,5 +1,5 @@
-// The fast path of a guest's writes, where the device stands in its record. A write that resets, starts and stops nothing changes the registers, the configuration, the
-// codec and the message latch alone: these are taken out of the record and put back. Any other is left to the calls on the whole device.
+// The fast path of a guest's writes, where the device stands in its record. A write that resets, starts and stops nothing, and is no immediate command, changes the two
+// files and the message latch alone, but for commands that wait: the files are taken out of the record and put back. Any other is left to the calls on the whole device.
 use configuration::Config;
 use host::Host;
 use pci::Msi;
@@ -11,7 +11,7 @@ ghost use mathlib.Core.Bool.{true};
 ghost use Prim.Native.Nat.{_≤_};
 ghost use lib.ListN.{length};
 ghost use Rattle.stream.specs.Box.{streams};
-ghost use Rattle.bus.specs.Bus.{frontOf, bytesOf};
+ghost use Rattle.bus.specs.Bus.{frontOf, plainWrite, bytesOf};
 ghost use Rattle.device.specs.Machines.{machine};
 ghost use Rattle.record.specs.Layout.{deviceSize};
 ghost use Rattle.record.specs.Loads.{linkAt, deviceAt, isDevice};
@@ -74,12 +74,12 @@ fn is_quiet(old: &Registers, regs: &Registers) -> bool
 }
 
 // The bytes of a write in order, and the alignment after them.
-fn written(regs: &mut Registers, link: Link, offset: u64, bytes: &[u8]) -> Link
-    ensures { λ r. ⌜ frontOf (now (regs .exit)) r ≡ alignedOf (bytesOf (frontOf (now (regs .entry)) link) offset (now (bytes .entry))) ⌝ }
+fn written(regs: &mut Registers, offset: u64, bytes: &[u8])
+    requires { ⌜ plainWrite offset (length (now bytes)) ≡ true ⌝ }
+    ensures { λ _. ⌜ ((l : Link) → frontOf (now (regs .exit)) l ≡ alignedOf (bytesOf (frontOf (now (regs .entry)) l) offset (now (bytes .entry)))) ⌝ }
 {
-    let next = bus::write(regs, link, offset, bytes);
+    bus::write_plain(regs, offset, bytes);
     registers::align(regs);
-    next
 }
 
 // The commands and the interrupt, and the files into the record.
@@ -118,13 +118,15 @@ pub fn write(
     if read::check(device, host, lists, queues.len()) != 0 {
         return left_alone();
     }
+    if !bus::is_plain_write(offset, bytes.len()) {
+        return left_alone();
+    }
     let old = record::load_block(device, 262);
     let mut regs = old;
-    let next = written(&mut regs, record::load_link(device), offset, bytes);
+    written(&mut regs, offset, bytes);
     if !is_quiet(&old, &regs) {
         return left_alone();
     }
-    record::replace_link(device, next);
     let mut config = record::load_block(device, 6);
     conclude(device, &mut config, &mut regs, memory)
 }
