@@ -25,10 +25,10 @@ ghost use Rattle.advance.specs.Advance.{numberOf, stillOf, turnsWhere, l
 
 // What the call answers beside the record, the lent spaces and memory: document 01's number, the INTx level it leaves, a message to send, and the host end.
 pub struct Advanced {
-    pub number: u32,
-    pub level: bool,
     pub msi: Msi,
     pub host: Host,
+    pub number: u32,
+    pub level: bool,
 }
 
 // What a call answers that the check lets through: 1 where an opening was refused.

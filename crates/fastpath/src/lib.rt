@@ -20,9 +20,9 @@ ghost use Rattle.fastpath.specs.Quick.{staysOf, stayFrom, quietOf, leftA
 
 // Whether a write was carried out, and then the INTx level that it leaves and its message.
 pub struct Quick {
+    pub msi: Msi,
     pub done: bool,
     pub level: bool,
-    pub msi: Msi,
 }
 
 // A write that is left to the calls on the whole device.

@@ -57,6 +57,13 @@ pub fn amplify(pcm: &mut [u8], left: Gain, right: Gain)
     }
 }
 
+// The same by the two sides' amplifier bytes.
+pub fn amplify_by(pcm: &mut [u8], left: u8, right: u8)
+    ensures { λ _. ⌜ now (pcm .exit) ≡ amplifiedOf (gainOf left) (gainOf right) (now (pcm .entry)) ⌝ }
+{
+    amplify(pcm, gain_of(left), gain_of(right))
+}
+
 // ---- One sample
 
 // A product rounded to a whole number, halves away from zero, and clamped. A NaN is neither above nor below 0, and gives 0.

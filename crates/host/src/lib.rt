@@ -21,8 +21,8 @@ pub struct Host {
 
 // What an opening answers: whether the stream is open, and the host end.
 pub struct Opening {
-    pub ok: bool,
     pub host: Host,
+    pub ok: bool,
 }
 
 // Number 12's condition on a downstream count.

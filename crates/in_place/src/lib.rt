@@ -14,8 +14,8 @@ ghost use Rattle.in_place.specs.Steps.{partsOf, endOut, interruptedOf, e
 
 // What a call leaves of the interrupt: the INTx level, and a message to send.
 pub struct Ended {
-    pub level: bool,
     pub msi: Msi,
+    pub level: bool,
 }
 
 // Every command that waits. The codec is taken out of the record only where there is something to do.

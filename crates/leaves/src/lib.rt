@@ -32,9 +32,7 @@ pub extern "C" fn hda_format(word: u16) -> u32
 pub extern "C" fn hda_amplify(pcm: &mut [u8], left: u8, right: u8)
     ensures { λ _. ⌜ now (pcm .exit) ≡ amplifiedOf (gainOf left) (gainOf right) (now (pcm .entry)) ⌝ }
 {
-    let left_gain = gain::gain_of(left);
-    let right_gain = gain::gain_of(right);
-    gain::amplify(pcm, left_gain, right_gain);
+    gain::amplify_by(pcm, left, right);
 }
 
 fn load_clock(bytes: &[u8]) -> Clock

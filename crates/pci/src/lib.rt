@@ -17,8 +17,8 @@ pub enum Msi {
 
 // What an update of the interrupt answers: whether a message interrupt is asserted, and the message to send.
 pub struct Signal {
-    pub asserted: bool,
     pub msi: Msi,
+    pub asserted: bool,
 }
 
 // Bits of interrupt control and status: the global one, the controller's, and those of all sources, with the streams' from bit 0 on.

@@ -10,10 +10,10 @@ ghost use Rattle.pieces.specs.Pieces.{followingOf, nextOf, listOf, EndOk
 
 // What a piece, or all pieces of a period, left beside the lent lists.
 pub struct Step {
-    pub ok: bool,
-    pub full: bool,
     pub stream: Stream,
     pub done: u32,
+    pub ok: bool,
+    pub full: bool,
 }
 
 // The descriptor after one that has ended.

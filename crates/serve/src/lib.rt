@@ -15,9 +15,9 @@ ghost use Rattle.serve.specs.Serve.{runs, bankOf, turnsAnswer, turnsOf, 
 
 // What the streams' turns answer beside the lent spaces and the registers: whether an opening was refused, the streams and the host end.
 pub struct Served {
-    pub refused: bool,
     pub streams: [Stream; STREAMS],
     pub host: Host,
+    pub refused: bool,
 }
 
 // Whether a stream takes a turn: it runs, is not in reset, and its synchronization bit is clear.

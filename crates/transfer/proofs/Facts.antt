@@ -6,8 +6,7 @@ use mathlib.Core.List.{List, _++_}
 use native.Mathlib.Omega.{arith}
 use lib.ListN.{length, take, length-append}
 use lib.Seq.{length-take-le}
-use Rattle.gain.specs.declared.Gain.{Gain}
-use Rattle.gain.specs.Gain.{amplifiedOf}
+use Rattle.gain.specs.Gain.{gainOf, amplifiedOf}
 use Rattle.gain.proofs.Laws.{amplified-length}
 use Rattle.stream.specs.declared.Stream.{Stream}
 use Rattle.stream.specs.declared.Cyclic.{Cyclic}
@@ -21,7 +20,7 @@ use Rattle.queue.proofs.Contents.{length-take-part, length-put-part}
 use Rattle.transfer.specs.Transfers.{Transfer, transferOut, withPieces, silence, takenOf, capturedOf, captureOf, heardOf, playbackOf, transferOf, TransferNeeds}
 use Rattle.transfer.proofs.Laws.{length-silence}
 
-module _ (g : Cyclic) (s : Stream) (q : Queue) (connected : Bool) (left right : Gain) (l part m : List ℕ) (count : ℕ) where
+module _ (g : Cyclic) (s : Stream) (q : Queue) (connected : Bool) (left right : ℕ) (l part m : List ℕ) (count : ℕ) where
   -- what holds of a capture, of a playback, and of a transfer that is not ready, holds of a transfer
   by-direction : (P : Transfer → Type 0) → (g .capture ≡ true → P (captureOf g s q connected left right l part m count))
       → (g .capture ≡ false → P (playbackOf g s q connected left right l part m count)) → P (transferOut false false s q l part m)
@@ -65,12 +64,12 @@ module _ (g : Cyclic) (s : Stream) (q : Queue) (connected : Bool) (left right : 
     unfolding takeOf
     length-captured =
         by-cond (λ (b : List ℕ). length b ≡ count) connected _ (silence count)
-        (λ e. subst (λ (b : Bool). length (amplifiedOf left right (take (takenOf b q part count .count) part ++ silence (count - takenOf b q part count .count))) ≡ count) (sym e) full)
+        (λ e. subst (λ (b : Bool). length (amplifiedOf (gainOf left) (gainOf right) (take (takenOf b q part count .count) part ++ silence (count - takenOf b q part count .count))) ≡ count) (sym e) full)
         (λ _. length-silence count)
       where
-        full : length (amplifiedOf left right (take (min count (q .length)) part ++ silence (count - min count (q .length)))) ≡ count
+        full : length (amplifiedOf (gainOf left) (gainOf right) (take (min count (q .length)) part ++ silence (count - min count (q .length)))) ≡ count
         full =
-            amplified-length left right (take (min count (q .length)) part ++ silence (count - min count (q .length)))
+            amplified-length (gainOf left) (gainOf right) (take (min count (q .length)) part ++ silence (count - min count (q .length)))
             ∙ length-append (take (min count (q .length)) part) (silence (count - min count (q .length)))
             ∙ omega (arith, length-take-le (min count (q .length)) part (omega (arith, needs .queued, needs .space)), length-silence (count - min count (q .length)))
 
@@ -85,7 +84,7 @@ module _ (g : Cyclic) (s : Stream) (q : Queue) (connected : Bool) (left right : 
 
     length-heard : (pcm : List ℕ) → length pcm ≡ count → length (heardOf connected left right pcm count) ≡ count
     length-heard pcm e =
-        by-cond (λ (b : List ℕ). length b ≡ count) connected (amplifiedOf left right pcm) (silence count) (λ _. amplified-length left right pcm ∙ e) (λ _. length-silence count)
+        by-cond (λ (b : List ℕ). length b ≡ count) connected (amplifiedOf (gainOf left) (gainOf right) pcm) (silence count) (λ _. amplified-length (gainOf left) (gainOf right) pcm ∙ e) (λ _. length-silence count)
 
     playback-lengths : SameLengths (playbackOf g s q connected left right l part m count)
     unfolding playbackOf

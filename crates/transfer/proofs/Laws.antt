@@ -7,8 +7,7 @@ use native.Mathlib.Omega.{arith}
 use borrow.Author.Tests.{eqb-false}
 use lib.Dec.{leb, eqb}
 use lib.ListN.{length, take, drop, length-replicate, drop-of-length-le}
-use Rattle.gain.specs.declared.Gain.{Gain}
-use Rattle.gain.specs.Gain.{amplifiedOf}
+use Rattle.gain.specs.Gain.{gainOf, amplifiedOf}
 use Rattle.stream.specs.declared.Stream.{Stream}
 use Rattle.stream.specs.declared.Cyclic.{Cyclic}
 use Rattle.plan.specs.Plans.{readyOf}
@@ -78,22 +77,22 @@ other : (b : Bool) (x y : Transfer) → b ≡ false → y ≡ cond b x y
 other b x y e = rw e
 
 -- what `captured` leaves: the queue, its part, and the samples
-abbrev pub Captures : Queue → Bool → Gain → Gain → List ℕ → ℕ → Queue → List ℕ → List ℕ → Type 0
+abbrev pub Captures : Queue → Bool → ℕ → ℕ → List ℕ → ℕ → Queue → List ℕ → List ℕ → Type 0
 Captures q connected left right part count q′ part′ pcm′ =
     let taken = takenOf connected q part count in
     (q′ ≡ taken .queue) × ((part′ ≡ taken .part) × (pcm′ ≡ capturedOf connected left right part taken count))
 
-module _ (q : Queue) (connected : Bool) (left right : Gain) (part pcm : List ℕ) (silent : pcm ≡ silence (length pcm)) where
+module _ (q : Queue) (connected : Bool) (left right : ℕ) (part pcm : List ℕ) (silent : pcm ≡ silence (length pcm)) where
   pub captured-none : connected ≡ false → Captures q connected left right part (length pcm) q part pcm
   captured-none e = subst (λ (b : Bool). Captures q b left right part (length pcm) q part pcm) (sym e) (refl, (refl, silent))
 
-  pub captured-taken : (t : Taken) (pcm′ : List ℕ) → connected ≡ true → t ≡ takeIntoOf q part pcm → pcm′ ≡ amplifiedOf left right (t .into)
+  pub captured-taken : (t : Taken) (pcm′ : List ℕ) → connected ≡ true → t ≡ takeIntoOf q part pcm → pcm′ ≡ amplifiedOf (gainOf left) (gainOf right) (t .into)
       → Captures q connected left right part (length pcm) (t .moved .queue) (t .moved .part) pcm′
   captured-taken t pcm′ e et ea =
       subst (λ (b : Bool). Captures q b left right part (length pcm) (t .moved .queue) (t .moved .part) pcm′) (sym e)
-      (ap (λ (m : Moved). m .queue) (take-leaves q part pcm t et), (ap (λ (m : Moved). m .part) (take-leaves q part pcm t et), ea ∙ ap (amplifiedOf left right) (take-fills q part pcm t et silent)))
+      (ap (λ (m : Moved). m .queue) (take-leaves q part pcm t et), (ap (λ (m : Moved). m .part) (take-leaves q part pcm t et), ea ∙ ap (amplifiedOf (gainOf left) (gainOf right)) (take-fills q part pcm t et silent)))
 
-module _ (g : Cyclic) (s : Stream) (q : Queue) (connected : Bool) (left right : Gain) (l part m : List ℕ) (count : ℕ) where
+module _ (g : Cyclic) (s : Stream) (q : Queue) (connected : Bool) (left right : ℕ) (l part m : List ℕ) (count : ℕ) where
   pub capture-left : (q′ : Queue) (part′ pcm : List ℕ) (o : Out) → let taken = takenOf connected q part count in
       q′ ≡ taken .queue → part′ ≡ taken .part → pcm ≡ capturedOf connected left right part taken count → o ≡ piecesOf count g count (stateOf s l m pcm 0)
       → withPieces o q′ part′ ≡ captureOf g s q connected left right l part m count

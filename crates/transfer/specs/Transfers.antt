@@ -4,8 +4,7 @@ use Prim.Native.Nat.{ℕ, _-_, _≤_}
 use mathlib.Core.Bool.{Bool, false, cond}
 use mathlib.Core.List.{List, _++_}
 use lib.ListN.{length, take, replicate}
-use Rattle.gain.specs.declared.Gain.{Gain}
-use Rattle.gain.specs.Gain.{amplifiedOf}
+use Rattle.gain.specs.Gain.{gainOf, amplifiedOf}
 use Rattle.stream.specs.declared.Stream.{Stream}
 use Rattle.stream.specs.declared.Cyclic.{Cyclic}
 use Rattle.plan.specs.Plans.{readyOf}
@@ -38,30 +37,30 @@ silence n = replicate n 0
 abbrev pub takenOf : Bool → Queue → List ℕ → ℕ → Moved
 takenOf connected q part count = cond connected (takeOf q part count) (movedOf 0 q part)
 
-abbrev pub capturedOf : Bool → Gain → Gain → List ℕ → Moved → ℕ → List ℕ
+abbrev pub capturedOf : Bool → ℕ → ℕ → List ℕ → Moved → ℕ → List ℕ
 capturedOf connected left right part m count =
-    cond connected (amplifiedOf left right (take (m .count) part ++ silence (count - m .count))) (silence count)
+    cond connected (amplifiedOf (gainOf left) (gainOf right) (take (m .count) part ++ silence (count - m .count))) (silence count)
 
 -- frames that were taken stay taken where a piece fails
-unfoldable pub captureOf : Cyclic → Stream → Queue → Bool → Gain → Gain → List ℕ → List ℕ → List ℕ → ℕ → Transfer
+unfoldable pub captureOf : Cyclic → Stream → Queue → Bool → ℕ → ℕ → List ℕ → List ℕ → List ℕ → ℕ → Transfer
 captureOf g s q connected left right l part m count =
     let taken = takenOf connected q part count in
     withPieces (piecesOf count g count (stateOf s l m (capturedOf connected left right part taken count) 0)) (taken .queue) (taken .part)
 
 -- A playback's samples go behind those queued, amplified where the stream is connected, else as silence. A failed transfer queues nothing.
-abbrev pub heardOf : Bool → Gain → Gain → List ℕ → ℕ → List ℕ
-heardOf connected left right pcm count = cond connected (amplifiedOf left right pcm) (silence count)
+abbrev pub heardOf : Bool → ℕ → ℕ → List ℕ → ℕ → List ℕ
+heardOf connected left right pcm count = cond connected (amplifiedOf (gainOf left) (gainOf right) pcm) (silence count)
 
 abbrev pub queuedOf : Out → Moved → Queue → List ℕ → Transfer
 queuedOf o put q part = cond (o .ok) (withPieces o (put .queue) (put .part)) (withPieces o q part)
 
-unfoldable pub playbackOf : Cyclic → Stream → Queue → Bool → Gain → Gain → List ℕ → List ℕ → List ℕ → ℕ → Transfer
+unfoldable pub playbackOf : Cyclic → Stream → Queue → Bool → ℕ → ℕ → List ℕ → List ℕ → List ℕ → ℕ → Transfer
 playbackOf g s q connected left right l part m count =
     let o = piecesOf count g count (stateOf s l m (silence count) 0) in
     queuedOf o (putOf q part (heardOf connected left right (o .state .pcm) count) count) q part
 
 -- a cyclic buffer that is not ready fails the transfer before anything is moved or taken
-unfoldable pub transferOf : Cyclic → Stream → Queue → Bool → Gain → Gain → List ℕ → List ℕ → List ℕ → ℕ → Transfer
+unfoldable pub transferOf : Cyclic → Stream → Queue → Bool → ℕ → ℕ → List ℕ → List ℕ → List ℕ → ℕ → Transfer
 transferOf g s q connected left right l part m count =
     cond (readyOf g)
     (cond (g .capture) (captureOf g s q connected left right l part m count) (playbackOf g s q connected left right l part m count))

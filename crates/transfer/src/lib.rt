@@ -1,5 +1,4 @@
 // One transfer of at most a period between guest memory and a stream's host queue (document 01, "Stream transfer"; the Rust's `transfer`).
-use gain::Gain;
 use queue::Queue;
 use stream::Cyclic;
 use stream::Stream;
@@ -11,10 +10,10 @@ ghost use Rattle.transfer.specs.Transfers.{leftOf, silence, takenOf, cap
 
 // What a transfer left beside the lent lists: whether it succeeded, whether the limit of pending completions stopped it, the stream and its queue.
 pub struct Transferred {
-    pub ok: bool,
-    pub full: bool,
     pub stream: Stream,
     pub queue: Queue,
+    pub ok: bool,
+    pub full: bool,
 }
 
 // Every byte becomes 0.
@@ -28,12 +27,12 @@ fn clear(pcm: &mut [u8])
     }
 }
 
-// A capture's samples over silence, and the queue that is left. A connected stream alone takes frames, and what it takes is amplified.
+// A capture's samples over silence, and the queue that is left. A connected stream alone takes frames, and what it takes is amplified, by an amplifier byte for each side.
 fn captured(
     q: Queue,
     connected: bool,
-    left: Gain,
-    right: Gain,
+    left: u8,
+    right: u8,
     part: &mut [u8],
     pcm: &mut [u8],
 ) -> Queue
@@ -46,7 +45,7 @@ fn captured(
         return q;
     }
     let taken = q.take(part, pcm);
-    gain::amplify(pcm, left, right);
+    gain::amplify_by(pcm, left, right);
     taken.queue
 }
 
@@ -56,8 +55,8 @@ fn capture(
     s: Stream,
     q: Queue,
     connected: bool,
-    left: Gain,
-    right: Gain,
+    left: u8,
+    right: u8,
     list: &mut [u8],
     part: &mut [u8],
     memory: &mut [u8],
@@ -79,11 +78,11 @@ fn capture(
 }
 
 // What a playback's samples sound like: amplified, or silence where the stream is not connected.
-fn heard(connected: bool, left: Gain, right: Gain, pcm: &mut [u8])
+fn heard(connected: bool, left: u8, right: u8, pcm: &mut [u8])
     ensures { λ _. ⌜ now (pcm .exit) ≡ heardOf connected left right (now (pcm .entry)) (length (now (pcm .entry))) ⌝ }
 {
     if connected {
-        gain::amplify(pcm, left, right);
+        gain::amplify_by(pcm, left, right);
     } else {
         clear(pcm);
     }
@@ -95,8 +94,8 @@ fn playback(
     s: Stream,
     q: Queue,
     connected: bool,
-    left: Gain,
-    right: Gain,
+    left: u8,
+    right: u8,
     list: &mut [u8],
     part: &mut [u8],
     memory: &mut [u8],
@@ -133,8 +132,8 @@ pub fn transfer(
     s: Stream,
     q: Queue,
     connected: bool,
-    left: Gain,
-    right: Gain,
+    left: u8,
+    right: u8,
     list: &mut [u8],
     part: &mut [u8],
     memory: &mut [u8],

@@ -6,7 +6,6 @@ use mathlib.Core.List.{List}
 use native.Mathlib.Omega.{arith}
 use lib.Dec.{eqb}
 use Rattle.clock.specs.Billionths.{billion}
-use Rattle.gain.specs.declared.Gain.{Gain}
 use Rattle.word.specs.Value.{bytesOf}
 use Rattle.memory.specs.Memory.{writeOf}
 use Rattle.stream.specs.declared.Stream.{Stream}
@@ -37,7 +36,7 @@ next-pending s lvi n Plain room few = few
 next-pending s lvi n Flagged room few = omega arith
 
 -- of a transfer
-module _ (g : Cyclic) (s : Stream) (q : Queue) (connected : Bool) (left right : Gain) (l part m : List ℕ) (count : ℕ) where
+module _ (g : Cyclic) (s : Stream) (q : Queue) (connected : Bool) (left right : ℕ) (l part m : List ℕ) (count : ℕ) where
   abbrev out : Transfer
   out = transferOf g s q connected left right l part m count
 

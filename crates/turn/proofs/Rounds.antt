@@ -8,7 +8,6 @@ use borrow.Author.Tests.{eq-eqb, ne-eqb}
 use lib.Dec.{eqb}
 use Rattle.clock.specs.Billionths.{billion}
 use Rattle.clock.proofs.Theorems.{accrue-bound}
-use Rattle.gain.specs.declared.Gain.{Gain}
 use Rattle.stream.specs.declared.Stream.{Stream}
 use Rattle.stream.specs.declared.Cyclic.{Cyclic}
 use Rattle.stream.specs.Streams.{places}
@@ -44,7 +43,7 @@ pub record Kept (P : Stream → Queue → List ℕ → Type 0) : Type 0 where
   pub times : (s : Stream) (q : Queue) (l : List ℕ) (fraction : ℕ) → (s .fraction < time → fraction < time) → P s q l → P (withFraction s fraction) q l
   pub empties : (s : Stream) (q : Queue) (l : List ℕ) (live : Bool) → P s q l → P s (queue live 0) l
   pub updates : (s : Stream) (q : Queue) (l : List ℕ) (latency : ℕ) → P s q l → let u = updateOf s l latency in P (u .updated .stream) q (u .list)
-  pub moves : (g : Cyclic) (s : Stream) (q : Queue) (connected : Bool) (left right : Gain) (l part m : List ℕ) (n : ℕ) → P s q l
+  pub moves : (g : Cyclic) (s : Stream) (q : Queue) (connected : Bool) (left right : ℕ) (l part m : List ℕ) (n : ℕ) → P s q l
       → let t = transferOf g s q connected left right l part m (4 * n) in P (t .transferred .stream) (t .transferred .queue) (t .list)
 
 module _ (P : Stream → Queue → List ℕ → Type 0) (kept : Kept P) where

@@ -3,7 +3,6 @@
 use Prim.Native.Nat.{ℕ, _/_}
 use mathlib.Core.List.{List}
 use Rattle.word.specs.Place.{wordAt}
-use Rattle.gain.specs.Gain.{gainOf}
 use Rattle.codec.specs.declared.Codec.{Codec}
 use Rattle.codec.specs.Codecs.{connectedOf, amplifierByteOf}
 use Rattle.stream.specs.declared.Cyclic.{Cyclic}
@@ -15,14 +14,14 @@ use Rattle.turn.specs.declared.Setup.{Setup}
 abbrev pub cyclicOf : List ℕ → ℕ → Cyclic
 cyclicOf regs i = record { capture = captures i; bdl = wordAt 8 (bdpl i) regs; lvi = wordAt 2 (lvi i) regs; cbl = wordAt 4 (cbl i) regs }
 
--- Whether the codec's converter of that direction is set to the stream's tag and format, and its gains; `limit` is what the queue may hold.
+-- Whether the codec's converter of that direction is set to the stream's tag and format, and its amplifier bytes; `limit` is what the queue may hold.
 unfoldable pub setupOf : List ℕ → Codec → ℕ → ℕ → ℕ → Setup
 setupOf regs codec i downstream limit =
     record {
       cyclic = cyclicOf regs i;
       connected = connectedOf codec (captures i) (byteAt regs (tag i) / 16) (wordAt 2 (fmt i) regs);
-      left = gainOf (amplifierByteOf codec (captures i) 0);
-      right = gainOf (amplifierByteOf codec (captures i) 1);
+      left = amplifierByteOf codec (captures i) 0;
+      right = amplifierByteOf codec (captures i) 1;
       downstream = downstream;
       limit = limit;
       dplbase = wordAt 8 dplbase regs;

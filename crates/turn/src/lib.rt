@@ -2,7 +2,6 @@
 // `update_position`, `stream_error` and the loop body of `advance`).
 use codec::Codec;
 use format::Format;
-use gain::Gain;
 use host::Host;
 use host::Opening;
 use queue::Queue;
@@ -14,7 +13,6 @@ ghost use mathlib.Core.Path.{_≡_};
 ghost use Prim.Native.Nat.{_*_, _<_, _≤_};
 ghost use lib.ListN.{length};
 ghost use Rattle.stream.specs.Box.{streams};
-ghost use Rattle.gain.specs.Gain.{gainOf};
 ghost use Rattle.codec.specs.Codecs.{amplifierByteOf};
 ghost use Rattle.word.specs.Value.{bytesOf};
 ghost use Rattle.clock.specs.Billionths.{billion};
@@ -28,8 +26,8 @@ ghost use Rattle.turn.specs.Failures.{attachedOf, channelOf, errorOf};
 pub struct Setup {
     pub cyclic: Cyclic,
     pub connected: bool,
-    pub left: Gain,
-    pub right: Gain,
+    pub left: u8,
+    pub right: u8,
     pub downstream: u32,
     // Bytes that the queue may hold.
     pub limit: u32,
@@ -40,11 +38,11 @@ pub struct Setup {
 
 // A stream's DMA engine: whether it runs, its status and position registers, its stream and the host's queue.
 pub struct Engine {
-    pub running: bool,
-    pub status: u8,
-    pub position: u32,
     pub stream: Stream,
     pub queue: Queue,
+    pub position: u32,
+    pub status: u8,
+    pub running: bool,
 }
 
 // A stream and the host end that serves it.
@@ -55,22 +53,22 @@ pub struct Attached {
 
 // What a turn answers: whether its opening was refused, the stream and the host end.
 pub struct Turned {
-    pub refused: bool,
     pub stream: Stream,
     pub host: Host,
+    pub refused: bool,
 }
 
-// The gain of a side of the converter that serves a direction.
-fn gain_of(codec: Codec, input: bool, side: usize) -> Gain
+// The amplifier byte of a side of the converter that serves a direction.
+fn amplifier_byte(codec: Codec, input: bool, side: usize) -> u8
     requires { ⌜ side < 2 ⌝ }
-    ensures { λ r. ⌜ r ≡ gainOf (amplifierByteOf codec input side) ⌝ }
+    ensures { λ r. ⌜ r ≡ amplifierByteOf codec input side ⌝ }
 {
     if input {
         let n = codec.nodes[4];
-        gain::gain_of(n.bytes[side])
+        n.bytes[side]
     } else {
         let n = codec.nodes[2];
-        gain::gain_of(n.bytes[2 + side])
+        n.bytes[2 + side]
     }
 }
 
@@ -100,8 +98,8 @@ fn setup_of(regs: &Registers, codec: Codec, index: usize, downstream: u32, limit
     Setup {
         cyclic: cyclic(regs, index),
         connected: codec.connected(capture, tag, format),
-        left: gain_of(codec, capture, 0),
-        right: gain_of(codec, capture, 1),
+        left: amplifier_byte(codec, capture, 0),
+        right: amplifier_byte(codec, capture, 1),
         downstream: downstream,
         limit: limit,
         dplbase: word::get64(regs, registers::DPLBASE),
@@ -267,15 +265,13 @@ impl Engine {
         let cyclic = g.cyclic;
         let s = self.stream;
         let q = self.queue;
-        let left = g.left;
-        let right = g.right;
         let t = transfer::transfer(
             cyclic,
             s,
             q,
             g.connected,
-            left,
-            right,
+            g.left,
+            g.right,
             list,
             part,
             memory,

@@ -7,8 +7,8 @@ use Rattle.transfer.specs.Transfers.{heardOf}
 use Rattle.transfer.proofs.heard.Statement.{statement}
 use Rattle.transfer.proofs.heard.Tie as tie
 
-amplify-requires : tie.Need-amplify-requires
-amplify-requires c κs = search needs
+amplify-by-requires : tie.Need-amplify-by-requires
+amplify-by-requires c κs = search needs
 
 clear-requires : tie.Need-clear-requires
 clear-requires c κs = search needs
@@ -19,7 +19,7 @@ same-length c = search needs
 returns : tie.Need-returns
 returns c =
     let a = c .before .before .before .before .before .before .args in
-    let k = c .before .before .amplify in
+    let k = c .before .before .amplify-by in
     subst (λ (b : Bool). k .last .0 ≡ heardOf b (a .left) (a .right) (a .pcm .now) (length (a .pcm .now))) (sym (c .before .before .before .before .if1 .taken)) (k .ensures)
 
 same-length-2 : tie.Need-same-length-2
@@ -33,4 +33,4 @@ returns-2 c =
 
 pub heard-spec : {M : Type 1} → statement M
 heard-spec =
-    tie.close (tie.spec amplify-requires clear-requires same-length returns same-length-2 returns-2)
+    tie.close (tie.spec amplify-by-requires clear-requires same-length returns same-length-2 returns-2)

@@ -35,7 +35,7 @@ heard-requires : tie.Need-heard-requires
 heard-requires c κs = search needs
 
 put-requires : tie.Need-put-requires
-put-requires c κs = search needs
+put-requires c κs = let needs = c .before .before .before .before .before .before .before .before .before .before .before .before .before .before .before .before .before .before .before .before .before .before .before .pre .0 in (needs .queued, needs .space)
 
 same-length-4 : tie.Need-same-length-4
 same-length-4 c = search needs

@@ -31,11 +31,11 @@ cyclic-requires c κs = search needs
 connected-requires : tie.Need-connected-requires
 connected-requires c κs = search needs
 
-gain-of-requires : tie.Need-gain-of-requires
-gain-of-requires c κs = search needs
+amplifier-byte-requires : tie.Need-amplifier-byte-requires
+amplifier-byte-requires c κs = search needs
 
-gain-of-requires-2 : tie.Need-gain-of-requires-2
-gain-of-requires-2 c κs = search needs
+amplifier-byte-requires-2 : tie.Need-amplifier-byte-requires-2
+amplifier-byte-requires-2 c κs = search needs
 
 get64-requires : tie.Need-get64-requires
 get64-requires c κs = search needs
@@ -43,7 +43,7 @@ get64-requires c κs = search needs
 returns : tie.Need-returns
 unfolding setupOf
 returns c =
-    rw (c .get64 .ensures, c .before .before .gain-of2 .ensures, c .before .before .before .gain-of .ensures, c .before .before .before .before .connected .ensures, c .before .before .before .before .before .cyclic .ensures, c .before .before .before .before .before .before .get16 .ensures, c .before .before .before .before .before .before .before .before .before .is-capture .ensures)
+    rw (c .get64 .ensures, c .before .before .amplifier-byte2 .ensures, c .before .before .before .amplifier-byte .ensures, c .before .before .before .before .connected .ensures, c .before .before .before .before .before .cyclic .ensures, c .before .before .before .before .before .before .get16 .ensures, c .before .before .before .before .before .before .before .before .before .is-capture .ensures)
 
 pub setup-of-spec : {M : Type 1} → statement M
 setup-of-spec =
@@ -58,7 +58,7 @@ setup-of-spec =
     get16-requires
     cyclic-requires
     connected-requires
-    gain-of-requires
-    gain-of-requires-2
+    amplifier-byte-requires
+    amplifier-byte-requires-2
     get64-requires
     returns)

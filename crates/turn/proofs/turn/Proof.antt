@@ -31,7 +31,7 @@ stopped-requires : tie.Need-stopped-requires
 stopped-requires c κs = search needs
 
 finish-requires : tie.Need-finish-requires
-finish-requires c κs = search needs
+finish-requires c κs = c .before .before .before .before .before .before .before .before .before .before .before .before .before .pre .stream
 
 enum-known-rate : tie.Need-enum-known-rate
 enum-known-rate c = search needs
