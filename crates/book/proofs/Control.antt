@@ -8,11 +8,11 @@ use native.Mathlib.Omega.{arith}
 use Rattle.word.specs.Place.{wordAt}
 use Rattle.word.specs.Parts.{partOf}
 use Rattle.word.specs.Each.{eachOf, always}
+use Rattle.word.proofs.Choices.{by-cond, by-both}
 use Rattle.format.specs.declared.Format.{Format}
 use Rattle.format.specs.declared.Format.the-variants.{Unsupported, Rate}
 use Rattle.format.specs.Format.{formatOf}
 use Rattle.stream.specs.Box.{streams}
-use Rattle.queue.proofs.Tests.{by-cond}
 use Rattle.registers.specs.Places.{gctl, ctl, fmt, byteAt, has}
 use Rattle.turn.specs.Engines.{stoppedOf}
 use Rattle.turn.specs.Turns.{openStreamOf}
@@ -25,7 +25,7 @@ use Rattle.write.specs.Writes.{controlledOf, flushedOf, tailOf}
 use Rattle.book.specs.Book.{Event, reset}
 use Rattle.book.specs.Events.{controllerEvents, settleEvents}
 use Rattle.book.proofs.Ghosts.{Ghost, see, sees}
-use Rattle.book.proofs.Loops.{by-both, each-around}
+use Rattle.book.proofs.Loops.{each-around}
 use Rattle.book.proofs.Tied.{Tied, tied-times, tied-reset}
 use Rattle.book.proofs.Machines.{Held, held-own, held-other}
 

@@ -9,11 +9,11 @@ use lib.ListN.{length}
 use Rattle.word.specs.Place.{wordAt}
 use Rattle.word.specs.Parts.{partOf}
 use Rattle.word.specs.Each.{eachOf, further}
+use Rattle.word.proofs.Choices.{by-cond, by-both}
 use Rattle.word.proofs.Parts.{length-with-part}
 use Rattle.format.specs.Format.{formatOf}
 use Rattle.stream.specs.Box.{streams}
 use Rattle.queue.specs.Queues.{capacity}
-use Rattle.queue.proofs.Tests.{by-cond}
 use Rattle.host.specs.Hosts as hosts
 use Rattle.host.proofs.Checks.{valid-queue}
 use Rattle.registers.specs.Places.{fmt}
@@ -27,7 +27,7 @@ use Rattle.serve.specs.Serve.{Turns, turnsOf, runs, takenOf, turnAt, goesOn, se
 use Rattle.book.specs.Book.{Event}
 use Rattle.book.specs.Events.{formattedEvents, turnEvents, serveEvents}
 use Rattle.book.proofs.Ghosts.{Ghost, sees}
-use Rattle.book.proofs.Loops.{by-both, each-split, each-range, each-turn}
+use Rattle.book.proofs.Loops.{each-split, each-range, each-turn}
 use Rattle.book.proofs.Turns.{formatted-tied}
 use Rattle.book.proofs.Machines.{Held, part-size, held-own-list, held-other-list}
 

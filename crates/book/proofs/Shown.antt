@@ -14,6 +14,7 @@ use Rattle.word.specs.Value.{valueOf}
 use Rattle.word.specs.Place.{wordAt, storeAt}
 use Rattle.word.specs.Parts.{partOf}
 use Rattle.word.specs.Each.{eachOf, further}
+use Rattle.word.proofs.Choices.{by-cond, by-both, by-not}
 use Rattle.word.proofs.Lists.{drop-take}
 use Rattle.word.proofs.Place.{word-bound, length-store, word-store, word-elsewhere}
 use Rattle.format.specs.declared.Format.{Format}
@@ -24,7 +25,6 @@ use Rattle.stream.specs.declared.Stream.{Stream}
 use Rattle.stream.specs.Streams.{freshOf}
 use Rattle.stream.specs.Box.{streams}
 use Rattle.queue.specs.Queues.{capacity}
-use Rattle.queue.proofs.Tests.{by-cond}
 use Rattle.host.specs.declared.Host.{Host}
 use Rattle.registers.specs.Places.{size, baseOf, gctl, intsts, walclk, ctl, sts, lpib, cbl, fmt, byteAt, has, keepBits, dmaOf}
 use Rattle.rings.specs.Rings.{ringsOf}
@@ -44,7 +44,7 @@ use Rattle.calls.specs.Calls.{after}
 use Rattle.book.specs.Book.{Event}
 use Rattle.book.specs.Events.{onlyIf, formattedEvents, servedEvents, turnEvents, serveEvents, advanceEvents, eventsOf}
 use Rattle.book.specs.Corollaries.{Whole, Shows, Some, Served}
-use Rattle.book.proofs.Loops.{by-both, by-not, each-split, each-range, each-turn}
+use Rattle.book.proofs.Loops.{each-split, each-range, each-turn}
 use Rattle.book.proofs.Consequences.{told}
 
 -- a byte set elsewhere leaves a word

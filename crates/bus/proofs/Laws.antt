@@ -9,9 +9,9 @@ use borrow.Author.Tests.{le-ltb, lt-ltb, not-true}
 use lib.Dec.{eqb}
 use lib.ListN.{length, drop, getD}
 use lib.Seq.{drop-cons, drop-length}
+use Rattle.word.proofs.Choices.{both}
 use Rattle.registers.specs.Places.{size, rirbwp, icis}
 use Rattle.registers.specs.Writes.{writeByteOf}
-use Rattle.registers.proofs.Tests.{both}
 use Rattle.bus.specs.Bus.{Front, frontOf, byteOf, plainOf, bytesOf}
 
 -- past the file every byte is dropped

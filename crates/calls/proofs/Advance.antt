@@ -6,14 +6,15 @@ use mathlib.Core.List.{List}
 use native.Mathlib.Omega.{arith}
 use lib.ListN.{length}
 use Rattle.word.specs.Parts.{partOf}
+use Rattle.word.proofs.Choices.{by-cond}
 use Rattle.word.proofs.Each.{each-keeps-until}
 use Rattle.word.proofs.Parts.{length-with-part}
 use Rattle.clock.proofs.Theorems.{advance-fraction}
 use Rattle.stream.specs.Box.{streams}
 use Rattle.queue.specs.Queues.{capacity}
-use Rattle.queue.proofs.Tests.{by-cond}
 use Rattle.host.proofs.Checks.{valid-queue}
 use Rattle.registers.specs.Places.{gctl, walclk, byteAt, has, dmaOf}
+use Rattle.registers.proofs.Files.{file-store}
 use Rattle.turn.specs.Turns.{Turn, turnOf}
 use Rattle.turn.proofs.Validity.{turn-valid, turn-host-valid}
 use Rattle.device.specs.Devices.{listSize, streamAt, withRegs}
@@ -24,7 +25,6 @@ use Rattle.settle.specs.Settle.{ports}
 use Rattle.serve.specs.Serve.{runs, Turns, turnsOf, takenOf, turnAt, goesOn, serveOf}
 use Rattle.serve.proofs.Turns.{length-part}
 use Rattle.advance.specs.Advance.{tickedOf, numberOf, afterCommands, advanceStep, advanceOf}
-use Rattle.calls.proofs.Registers.{file-store}
 use Rattle.calls.proofs.Turns.{turn-file}
 use Rattle.calls.proofs.Devices.{Holds, device-changed, with-file, part-size, commanded-holds, Stands, Leaves, unchanged-leaves, finished-leaves, checked-leaves, commanded-stands}
 

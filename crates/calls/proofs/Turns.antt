@@ -9,6 +9,7 @@ use lib.Bits.{bitOr, or-lt}
 use lib.Dec.{eqb}
 use lib.ListN.{length}
 use Rattle.word.specs.Place.{wordAt}
+use Rattle.word.proofs.Choices.{by-cond}
 use Rattle.clock.proofs.Theorems.{accrue-bound}
 use Rattle.clock.specs.Frames.{remainderOf}
 use Rattle.format.specs.declared.Format.{Format}
@@ -21,7 +22,6 @@ use Rattle.stream.specs.Streams.{validOf}
 use Rattle.stream.specs.Update.{updateOf}
 use Rattle.stream.proofs.Validity.{valid-parts, parts-valid}
 use Rattle.queue.specs.Queues.{capacity, closed, validQueue, latencyOf}
-use Rattle.queue.proofs.Tests.{by-cond}
 use Rattle.queue.proofs.Validity.{queue-bound}
 use Rattle.host.specs.declared.Host.{Host}
 use Rattle.host.specs.declared.Opening.{Opening}
@@ -30,6 +30,7 @@ use Rattle.host.specs.Hosts.{queueAt}
 use Rattle.host.proofs.Validity.{with-queue-valid}
 use Rattle.transfer.proofs.Facts.{transfer-lengths}
 use Rattle.registers.specs.Places.{ctl, sts, lpib, fmt}
+use Rattle.registers.proofs.Files.{File, file-set, file-store, file-keep}
 use Rattle.turn.specs.declared.Setup.{Setup}
 use Rattle.turn.specs.declared.Engine.{Engine}
 use Rattle.turn.specs.Setups.{setupOf}
@@ -40,7 +41,6 @@ use Rattle.turn.proofs.Facts.{frames-few, publish-by}
 use Rattle.turn.proofs.Rounds.{updated-keeps, round-keeps}
 use Rattle.turn.proofs.Turns.{open-queue}
 use Rattle.turn.proofs.Validity.{Sound, sound-kept}
-use Rattle.calls.proofs.Registers.{File, file-set, file-store, file-keep}
 
 -- an engine put back into the registers, where its status is a byte
 abbrev Byte : Engine → Type 0

@@ -8,11 +8,13 @@ use mathlib.Core.Logic.{_⊎_, _≢_, ⊎-elim, inl, inr}
 use native.Mathlib.Omega.{arith}
 use borrow.Author.Tests.{ltb-true, ltb-false}
 use lib.Dec.{ltb}
-use lib.ListN.{length, getD, set, getD-replicate}
+use lib.ListN.{length, getD, getD-replicate}
 use lib.Seq.{take-nil, getD-set-other}
 use Rattle.word.specs.Value.{valueOf}
 use Rattle.word.specs.Place.{wordAt}
 use Rattle.word.specs.Parts.{partOf, withPart}
+use Rattle.word.proofs.Choices.{by-cond}
+use Rattle.word.proofs.Lists.{at-set}
 use Rattle.word.proofs.Parts.{part-same, part-other}
 use Rattle.stream.specs.declared.Stream.{Stream}
 use Rattle.stream.specs.Box.{streams}
@@ -21,7 +23,6 @@ use Rattle.stream.proofs.Validity as stream-laws
 use Rattle.host.specs.declared.Host.{Host}
 use Rattle.queue.specs.Queues.{capacity}
 use Rattle.host.specs.Hosts as hosts
-use Rattle.queue.proofs.Tests.{by-cond}
 use Rattle.host.proofs.Validity as host-laws
 use Rattle.pci.specs.declared.Msi.{Msi}
 use Rattle.configuration.specs.Configuration as pci
@@ -88,12 +89,6 @@ apart j i = go (ltb j i) (ltb i j) refl refl
     go false true ea eb = inr (inr (ltb-true i j eb))
     go false false ea eb = inl (omega (arith, ltb-false j i ea, ltb-false i j eb))
 
--- what is put in a place holds there, where what stands for a missing stream has it too
-at-set : (P : Stream → Type 0) (s x : Stream) (ss : List Stream) (i : ℕ) → P s → P x → P (getD (set ss i s) i x)
-at-set P s x [] i p q = q
-at-set P s x (y ∷ ss) zero p q = p
-at-set P s x (y ∷ ss) (suc i) p q = at-set P s x ss i p q
-
 -- another stream in a valid device, with another list in its part
 module _ (d : Hda) (l : List ℕ) (i : ℕ) (few : i < streams) (s : Stream) (part : List ℕ) (sized : length part ≡ listSize)
     (space : listSize * streams ≤ length l) where
@@ -103,7 +98,7 @@ module _ (d : Hda) (l : List ℕ) (i : ℕ) (few : i < streams) (s : Stream) (pa
   same : stream.validOf s part ≡ true → streamValid (withStream d i s) (withPart listSize i l part) i ≡ true
   same e =
       rw (part-same listSize i l part sized fits)
-      (at-set (λ (x : Stream). stream.validOf x part ≡ true) s stream.freshOf (d .streams) i e (stream-laws.fresh-valid part))
+      (at-set (λ (x : Stream). stream.validOf x part ≡ true) (d .streams) i s stream.freshOf e (stream-laws.fresh-valid part))
 
   other : (j : ℕ) → (j < i) ⊎ (i < j) → streamValid (withStream d i s) (withPart listSize i l part) j ≡ streamValid d l j
   other j h =

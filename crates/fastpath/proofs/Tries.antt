@@ -4,7 +4,7 @@ use mathlib.Core.Path.{_≡_, sym, ap, _∙_}
 use mathlib.Core.Bool.{Bool, true, false, cond, true≢false, _&&_}
 use mathlib.Core.List.{List}
 use lib.Dec.{eqb, ltb}
-use Rattle.queue.proofs.Tests.{left, right, by-cond}
+use Rattle.word.proofs.Choices.{left, right, by-cond}
 use Rattle.device.specs.Machines.{Machine, Done, checkMachine, answerOf, finishOf}
 use Rattle.settle.specs.Settle.{ports}
 use Rattle.write.specs.Writes.{writtenOf, writeStep, writeOf}

@@ -4,9 +4,9 @@ use mathlib.Core.Path.{_≡_, refl, sym, _∙_, subst}
 use mathlib.Core.Bool.{Bool, true, false, true≢false}
 use mathlib.Core.List.{List}
 use native.Mathlib.Omega.{arith}
-use lib.ListN.{length, take, drop, length-drop}
-use lib.Seq.{length-take-le}
+use lib.ListN.{length, take, drop}
 use Rattle.word.specs.Place.{putAt}
+use Rattle.word.proofs.Lists.{length-part}
 use Rattle.word.proofs.Put.{length-put}
 use Rattle.positions.proofs.Change.{length-push}
 use Rattle.stream.specs.declared.Stream.{Stream}
@@ -19,7 +19,7 @@ use Rattle.pieces.proofs.Turns.{Further, piece-further, pieces-by, piec
 -- a part put over as many bytes
 length-put-part : (at : ℕ) (l : List ℕ) (from n : ℕ) (k : List ℕ) → at + n ≤ length l → from + n ≤ length k → length (putAt at (take n (drop from k)) l) ≡ length l
 length-put-part at l from n k fits there =
-    length-put at (take n (drop from k)) l (omega (arith, length-take-le n (drop from k) (omega (arith, length-drop from k))))
+    length-put at (take n (drop from k)) l (omega (arith, length-part n from k (omega arith)))
 
 -- lengths stay
 

@@ -7,6 +7,7 @@ use native.Mathlib.Numerals.{add-one}
 use borrow.Author.Tests.{eqb-false}
 use lib.Dec.{eqb}
 use lib.ListN.{length}
+use Rattle.word.proofs.Choices.{by-cond}
 use Rattle.positions.specs.Positions.{positionsOf}
 use Rattle.positions.proofs.Order.{rises-within, rises-last, rises-append}
 use Rattle.positions.proofs.Change.{length-push, push-appends}
@@ -16,7 +17,6 @@ use Rattle.plan.specs.declared.End.the-variants.{Inside, Plain, Flagged}
 use Rattle.stream.specs.Streams.{validOf}
 use Rattle.pieces.specs.Pieces.{State, followingOf, movedOf, piecesOf}
 use Rattle.stream.proofs.Validity.{Valid, valid-parts, parts-valid}
-use Rattle.pieces.proofs.Plans.{by-cond}
 use Rattle.pieces.proofs.Turns.{Moves, pieces-keep}
 
 -- the next descriptor's index is a byte, as the last one's is

@@ -10,8 +10,8 @@ use lib.ListN.{length, take, drop, set, length-drop}
 use lib.Seq.{drop-set-lt, drop-append-le, take-append-le}
 use Rattle.word.specs.Value.{valueOf, Bytes}
 use Rattle.word.specs.Place.{wordAt}
+use Rattle.word.proofs.Choices.{by-cond}
 use Rattle.stream.specs.Box.{streams}
-use Rattle.queue.proofs.Tests.{by-cond}
 use Rattle.registers.specs.Places.{gctl, byteAt, has, withBits, keepBits, dmaOf}
 use Rattle.pci.specs.declared.Msi.{Msi}
 use Rattle.pci.specs.declared.Msi.the-variants.{None, Message}

@@ -11,6 +11,7 @@ use lib.Seq.{take-at, take-take}
 use Rattle.word.specs.Place.{putAt, wordAt, storeAt}
 use Rattle.word.specs.Each.{eachOf}
 use Rattle.word.specs.Parts.{partOf}
+use Rattle.word.proofs.Choices.{by-cond}
 use Rattle.clock.specs.declared.Clock.{Clock}
 use Rattle.codec.specs.Codecs as codec
 use Rattle.codec.specs.Codecs.{nodeAt}
@@ -21,7 +22,6 @@ use Rattle.stream.specs.declared.Stream.{Stream}
 use Rattle.stream.specs.Streams as stream
 use Rattle.stream.specs.Box as box
 use Rattle.queue.specs.Queues.{queue}
-use Rattle.queue.proofs.Tests.{by-cond}
 use Rattle.host.specs.declared.Host.{Host}
 use Rattle.host.specs.Hosts as hosts
 use Rattle.registers.specs.Places.{ctl, fmt}

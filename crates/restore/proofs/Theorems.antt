@@ -12,6 +12,7 @@ use lib.Seq.{take-take}
 use Rattle.word.specs.Value.{valueOf}
 use Rattle.word.specs.Place.{wordAt}
 use Rattle.word.specs.Parts.{partOf}
+use Rattle.word.proofs.Choices.{left, by-cond}
 use Rattle.clock.specs.declared.Clock.{Clock}
 use Rattle.clock.specs.Billionths.{billion}
 use Rattle.stream.specs.declared.Stream.{Stream}
@@ -19,7 +20,6 @@ use Rattle.stream.specs.Streams as stream
 use Rattle.stream.specs.Box.{streams}
 use Rattle.queue.specs.declared.Queue.{Queue}
 use Rattle.queue.specs.Queues.{queue, validQueue}
-use Rattle.queue.proofs.Tests.{left, by-cond}
 use Rattle.host.specs.declared.Host.{Host}
 use Rattle.host.specs.Hosts as hosts
 use Rattle.pci.proofs.Facts.{update-identity-kept}

@@ -10,6 +10,7 @@ use lib.Dec.{eqb}
 use lib.ListN.{length, take, drop, getD, set, length-drop}
 use lib.Seq.{length-take-le}
 use Rattle.word.specs.Each.{eachOf}
+use Rattle.word.proofs.Choices.{by-cond}
 use Rattle.word.proofs.Each.{each-step, each-stop}
 use Rattle.stream.specs.declared.Stream.{Stream}
 use Rattle.stream.specs.Streams.{places, freshOf}
@@ -17,7 +18,6 @@ use Rattle.stream.specs.Box.{streams}
 use Rattle.host.specs.declared.Host.{Host}
 use Rattle.queue.specs.Queues.{capacity}
 use Rattle.host.specs.Hosts.{queueAt}
-use Rattle.queue.proofs.Tests.{by-cond}
 use Rattle.turn.specs.declared.Turned.{Turned}
 use Rattle.turn.specs.Turns.{Turn, turnOut, turnOf, TurnNeeds}
 use Rattle.turn.proofs.Leaves.{TurnLeaves, turn-leaves}

@@ -6,6 +6,7 @@ use mathlib.Core.List.{List, _++_}
 use native.Mathlib.Omega.{arith}
 use lib.ListN.{length, take, length-append}
 use lib.Seq.{length-take-le}
+use Rattle.word.proofs.Choices.{by-cond}
 use Rattle.gain.specs.declared.Gain.{Gain}
 use Rattle.gain.specs.Gain.{amplifiedOf}
 use Rattle.gain.proofs.Laws.{amplified-length}
@@ -16,7 +17,6 @@ use Rattle.pieces.specs.Pieces.{stateOf, piecesOf}
 use Rattle.pieces.proofs.Facts.{pieces-list-length, pieces-memory-length, pieces-pcm-length}
 use Rattle.queue.specs.declared.Queue.{Queue}
 use Rattle.queue.specs.Queues.{takeOf, putOf}
-use Rattle.queue.proofs.Tests.{by-cond}
 use Rattle.queue.proofs.Contents.{length-take-part, length-put-part}
 use Rattle.transfer.specs.Transfers.{Transfer, transferOut, withPieces, silence, takenOf, capturedOf, captureOf, heardOf, playbackOf, transferOf, TransferNeeds}
 use Rattle.transfer.proofs.Laws.{length-silence}

@@ -8,6 +8,7 @@ use lib.Dec.{eqb}
 use Rattle.clock.specs.Billionths.{billion}
 use Rattle.gain.specs.declared.Gain.{Gain}
 use Rattle.word.specs.Value.{bytesOf}
+use Rattle.word.proofs.Choices.{by-cond}
 use Rattle.memory.specs.Memory.{writeOf}
 use Rattle.stream.specs.declared.Stream.{Stream}
 use Rattle.stream.specs.declared.Cyclic.{Cyclic}
@@ -20,7 +21,6 @@ use Rattle.stream.specs.Update.{updateOf}
 use Rattle.pieces.proofs.Turns.{pieces-keep}
 use Rattle.queue.specs.declared.Queue.{Queue}
 use Rattle.queue.specs.Queues.{capacity, putOf, takeOf}
-use Rattle.queue.proofs.Tests.{by-cond}
 use Rattle.transfer.specs.Transfers.{Transfer, transferOut, withPieces, silence, captureOf, playbackOf, transferOf}
 use Rattle.turn.specs.declared.Setup.{Setup}
 use Rattle.turn.specs.declared.Engine.{Engine}

@@ -6,6 +6,7 @@ use mathlib.Core.List.{List}
 use native.Mathlib.Omega.{arith}
 use borrow.Author.Tests.{eq-eqb, ne-eqb}
 use lib.Dec.{eqb}
+use Rattle.word.proofs.Choices.{by-cond}
 use Rattle.clock.specs.Billionths.{billion}
 use Rattle.clock.proofs.Theorems.{accrue-bound}
 use Rattle.gain.specs.declared.Gain.{Gain}
@@ -15,7 +16,6 @@ use Rattle.stream.specs.Streams.{places}
 use Rattle.stream.specs.Update.{updateOf}
 use Rattle.queue.specs.declared.Queue.{Queue}
 use Rattle.queue.specs.Queues.{capacity, queue, closed, latencyOf}
-use Rattle.queue.proofs.Tests.{by-cond}
 use Rattle.transfer.specs.Transfers.{transferOf}
 use Rattle.turn.specs.declared.Setup.{Setup}
 use Rattle.turn.specs.declared.Engine.{Engine}
