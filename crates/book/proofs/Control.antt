@@ -13,12 +13,12 @@ use Rattle.format.specs.declared.Format.{Format}
 use Rattle.format.specs.declared.Format.the-variants.{Unsupported, Rate}
 use Rattle.format.specs.Format.{formatOf}
 use Rattle.stream.specs.Box.{streams}
+use Rattle.stream.specs.Streams.{listSize}
 use Rattle.registers.specs.Places.{gctl, ctl, fmt, byteAt, has}
 use Rattle.turn.specs.Engines.{stoppedOf}
 use Rattle.turn.specs.Turns.{openStreamOf}
 use Rattle.turn.specs.Failures.{Channel, errorOf}
 use Rattle.control.specs.Channels.{resetOf, haltedOf, startedBy, startedOf, heldOf, settledOf}
-use Rattle.device.specs.Devices.{listSize}
 use Rattle.settle.specs.declared.Ports.{Ports}
 use Rattle.settle.specs.Settle.{ports, channelAt, clearedOf, resetAt, resetControllerOf, settleAt, settleOf}
 use Rattle.write.specs.Writes.{controlledOf, flushedOf, tailOf}

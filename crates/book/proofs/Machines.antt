@@ -10,9 +10,8 @@ use Rattle.word.specs.Parts.{partOf, withPart}
 use Rattle.word.proofs.Lists.{length-part}
 use Rattle.word.proofs.Parts.{length-with-part, part-same, part-other}
 use Rattle.stream.specs.declared.Stream.{Stream}
-use Rattle.stream.specs.Streams.{freshOf}
+use Rattle.stream.specs.Streams.{listSize, freshOf}
 use Rattle.stream.specs.Box.{streams}
-use Rattle.device.specs.Devices.{listSize}
 use Rattle.book.proofs.Ghosts.{Ghost}
 use Rattle.book.proofs.Tied.{Tied}
 

@@ -13,11 +13,10 @@ use Rattle.word.proofs.Choices.{by-cond, by-both}
 use Rattle.positions.specs.Positions.{positionsOf}
 use Rattle.positions.proofs.View.{positions-take}
 use Rattle.stream.specs.declared.Stream.{Stream}
-use Rattle.stream.specs.Streams.{freshOf}
+use Rattle.stream.specs.Streams.{listSize, freshOf}
 use Rattle.stream.specs.Box.{streams}
 use Rattle.host.specs.declared.Host.{Host}
 use Rattle.device.specs.declared.Hda.{Hda}
-use Rattle.device.specs.Devices.{listSize}
 use Rattle.device.specs.Machines.{checkOf, answerOf, finishOf}
 use Rattle.record.specs.Rows.{rowOf}
 use Rattle.record.proofs.Places.{row-at}

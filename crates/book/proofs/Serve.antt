@@ -13,13 +13,14 @@ use Rattle.word.proofs.Choices.{by-cond, by-both}
 use Rattle.word.proofs.Parts.{length-with-part}
 use Rattle.format.specs.Format.{formatOf}
 use Rattle.stream.specs.Box.{streams}
+use Rattle.stream.specs.Streams.{listSize}
 use Rattle.queue.specs.Queues.{capacity}
 use Rattle.host.specs.Hosts as hosts
 use Rattle.host.proofs.Checks.{valid-queue}
 use Rattle.registers.specs.Places.{fmt}
 use Rattle.turn.specs.Turns.{Turn, turnOf}
 use Rattle.turn.proofs.Validity.{Sound, turn-valid, turn-host-valid}
-use Rattle.device.specs.Devices.{listSize, withRegs, streamAt, validOf}
+use Rattle.device.specs.Devices.{withRegs, streamAt, validOf}
 use Rattle.device.specs.Machines.{Machine}
 use Rattle.device.proofs.Checks.{device-parts}
 use Rattle.device.proofs.Facts.{valid-change, with-stream-valid}

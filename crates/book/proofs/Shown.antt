@@ -22,7 +22,7 @@ use Rattle.format.specs.declared.Format.the-variants.{Unsupported, Rate}
 use Rattle.format.specs.Format.{formatOf}
 use Rattle.codec.specs.declared.Codec.{Codec}
 use Rattle.stream.specs.declared.Stream.{Stream}
-use Rattle.stream.specs.Streams.{freshOf}
+use Rattle.stream.specs.Streams.{listSize, freshOf}
 use Rattle.stream.specs.Box.{streams}
 use Rattle.queue.specs.Queues.{capacity}
 use Rattle.host.specs.declared.Host.{Host}
@@ -35,7 +35,7 @@ use Rattle.turn.specs.Setups.{setupOf}
 use Rattle.turn.specs.Engines.{workOf, stoppedOf, positionOf, servedOf}
 use Rattle.turn.specs.Turns.{openStreamOf, engineOf, storeEngine, Turn, formattedOf, turnOf}
 use Rattle.device.specs.declared.Hda.{Hda}
-use Rattle.device.specs.Devices.{listSize, streamAt}
+use Rattle.device.specs.Devices.{streamAt}
 use Rattle.device.specs.Machines.{Machine, Done, checkMachine, unchanged, finishOf, answerOf, finished, commandedOf, withCommanded}
 use Rattle.serve.specs.Serve.{Turns, turnsOf, runs, takenOf, turnAt, goesOn, serveOf}
 use Rattle.advance.specs.Advance.{tickedOf, numberOf, afterCommands, advanceStep, advanceOf}

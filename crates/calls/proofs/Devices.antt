@@ -13,6 +13,7 @@ use Rattle.word.proofs.Lists.{length-part}
 use Rattle.word.proofs.Each.{each-keeps}
 use Rattle.clock.specs.Billionths.{billion}
 use Rattle.stream.specs.Box.{streams}
+use Rattle.stream.specs.Streams.{listSize}
 use Rattle.queue.specs.Queues.{capacity}
 use Rattle.host.specs.declared.Host.{Host}
 use Rattle.host.specs.Hosts as hosts
@@ -22,7 +23,7 @@ use Rattle.rings.specs.Rings.{ringsOf}
 use Rattle.rings.proofs.Facts.{commands-few}
 use Rattle.turn.specs.Failures.{Channel}
 use Rattle.device.specs.declared.Hda.{Hda}
-use Rattle.device.specs.Devices.{listSize, withRegs, validOf}
+use Rattle.device.specs.Devices.{withRegs, validOf}
 use Rattle.device.specs.Machines.{Machine, machine, checkMachine, answerOf, Done, unchanged, checked, finishOf, finished, Commanded, commandedOf, withCommanded}
 use Rattle.device.proofs.Checks.{Valid, device-parts, parts-device, passed, passes}
 use Rattle.device.proofs.Facts.{with-stream-valid}

@@ -18,7 +18,7 @@ use Rattle.format.specs.Format.{formatOf}
 use Rattle.codec.specs.declared.Codec.{Codec}
 use Rattle.stream.specs.declared.Stream.{Stream}
 use Rattle.stream.specs.Box.{streams}
-use Rattle.stream.specs.Streams.{validOf}
+use Rattle.stream.specs.Streams.{listSize, validOf}
 use Rattle.stream.specs.Update.{updateOf}
 use Rattle.stream.proofs.Validity.{valid-parts, parts-valid}
 use Rattle.queue.specs.Queues.{capacity, closed, validQueue, latencyOf}
@@ -78,7 +78,7 @@ module _ (g : Setup) where
       (λ _. stopped-byte (engine (e .running) (e .status) (e .position) (t .transferred .stream) (t .transferred .queue)) h)
 
   -- a list and a part of their sizes, a valid stream and queue, and a status that is a byte: a turn's work keeps them all
-  module _ (size space : ℕ) (long : 34816 ≤ size) (room : capacity ≤ space) where
+  module _ (size space : ℕ) (long : listSize ≤ size) (room : capacity ≤ space) where
     record Working (x : Work) : Type 0 where
       sound : Sound size (x .engine .stream) (x .engine .queue) (x .list)
       part : length (x .part) ≡ space
@@ -130,7 +130,7 @@ module _ (g : Setup) where
 
 -- what a turn leaves
 module _ (regs : List ℕ) (codec : Codec) (h : Host) (microphone : Bool) (i nanos limit : ℕ) (s : Stream) (l part m : List ℕ) (few : i < streams) (file : File regs)
-    (long : 34816 ≤ length l) (room : capacity ≤ length part) (stream : validOf s l ≡ true) (queue : validQueue (queueAt h i) ≡ true) where
+    (long : listSize ≤ length l) (room : capacity ≤ length part) (stream : validOf s l ≡ true) (queue : validQueue (queueAt h i) ≡ true) where
   abbrev Filed : Turn → Type 0
   Filed t = File (t .regs) × (length (t .part) ≡ length part)
 

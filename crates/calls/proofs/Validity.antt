@@ -7,12 +7,13 @@ use mathlib.Core.List.{List, [], _∷_}
 use native.Mathlib.Omega.{arith}
 use lib.ListN.{length}
 use Rattle.stream.specs.Box.{streams}
+use Rattle.stream.specs.Streams.{listSize}
 use Rattle.queue.specs.Queues.{capacity}
 use Rattle.host.specs.declared.Host.{Host}
 use Rattle.host.specs.Hosts as hosts
 use Rattle.driver.proofs.Validity.{feed-valid, pull-valid, playback-valid, capture-valid, downstream-valid}
 use Rattle.registers.proofs.Files.{file-reset}
-use Rattle.device.specs.Devices.{listSize, freshOf}
+use Rattle.device.specs.Devices.{freshOf}
 use Rattle.device.specs.Machines.{Machine, checkMachine}
 use Rattle.device.proofs.Facts.{fresh-passes}
 use Rattle.hda.specs.Calls.{newOf}

@@ -9,11 +9,11 @@ use lib.ListN.{length}
 use Rattle.word.specs.Value.{Bytes}
 use Rattle.word.proofs.Choices.{by-cond}
 use Rattle.stream.specs.Box.{streams}
+use Rattle.stream.specs.Streams.{listSize}
 use Rattle.registers.specs.Places.{gctl, statests, gsts, byteAt, has}
 use Rattle.registers.proofs.Files.{File, file-store, file-bits, file-keep, file-align}
 use Rattle.bus.specs.Bus.{frontOf}
 use Rattle.bus.proofs.Facts.{responses-fall}
-use Rattle.device.specs.Devices.{listSize}
 use Rattle.device.specs.Machines.{Machine, unchanged, withCommanded, commandedOf}
 use Rattle.device.proofs.Checks.{device-parts}
 use Rattle.settle.specs.declared.Ports.{Ports}

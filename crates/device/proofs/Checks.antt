@@ -13,6 +13,7 @@ use Rattle.word.proofs.Choices.{left, right, neither}
 use Rattle.clock.specs.Billionths.{billion}
 use Rattle.stream.specs.Box as box
 use Rattle.stream.specs.Streams as stream
+use Rattle.stream.specs.Streams.{listSize}
 use Rattle.stream.proofs.Validity.{valid-parts}
 use Rattle.host.specs.declared.Host.{Host}
 use Rattle.queue.specs.Queues.{capacity, validQueue}
@@ -21,7 +22,7 @@ use Rattle.queue.proofs.Validity.{queue-bound}
 use Rattle.host.proofs.Checks.{valid-queue}
 use Rattle.configuration.specs.Configuration.{identity}
 use Rattle.device.specs.declared.Hda.{Hda}
-use Rattle.device.specs.Devices.{listSize, streamAt, streamValid, validOf}
+use Rattle.device.specs.Devices.{streamAt, streamValid, validOf}
 use Rattle.device.specs.Machines.{shortOf, checkOf}
 use Rattle.device.proofs.Scan.{scan-each, scan-all}
 

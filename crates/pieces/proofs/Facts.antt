@@ -11,6 +11,7 @@ use Rattle.word.proofs.Put.{length-put}
 use Rattle.positions.proofs.Change.{length-push}
 use Rattle.stream.specs.declared.Stream.{Stream}
 use Rattle.stream.specs.declared.Cyclic.{Cyclic}
+use Rattle.stream.specs.Streams.{listSize}
 use Rattle.plan.specs.declared.End.{End}
 use Rattle.plan.specs.declared.End.the-variants.{Inside, Plain, Flagged}
 use Rattle.pieces.specs.Pieces.{EndOk, nextOf, listOf, memoryOf, pcmOf, State, pieceOf, piecesOf}
@@ -23,7 +24,7 @@ length-put-part at l from n k fits there =
 
 -- lengths stay
 
-pub length-list : (l : List ℕ) (s : Stream) (n : ℕ) (end : End) → EndOk s end → 34816 ≤ length l → length (listOf l s n end) ≡ length l
+pub length-list : (l : List ℕ) (s : Stream) (n : ℕ) (end : End) → EndOk s end → listSize ≤ length l → length (listOf l s n end) ≡ length l
 length-list l s n Inside room long = refl
 length-list l s n Plain room long = refl
 length-list l s n Flagged room long = length-push (s .pending) (s .submitted + n) l (omega arith)
@@ -39,7 +40,7 @@ length-pcm true m at pcm done n fits room = refl
 length-pcm false m at pcm done n fits room = length-put-part done pcm at n m room fits
 
 module _ (g : Cyclic) (count fuel : ℕ) (x : State) where
-  pub pieces-list-length : 34816 ≤ length (x .list) → length (piecesOf fuel g count x .state .list) ≡ length (x .list)
+  pub pieces-list-length : listSize ≤ length (x .list) → length (piecesOf fuel g count x .state .list) ≡ length (x .list)
   pieces-list-length long =
       pieces-keep g count (λ y. length (y .list) ≡ length (x .list))
       (λ y at n end more k h. length-list (y .list) (y .stream) n end (k .room) (omega arith) ∙ h) fuel x refl

@@ -18,13 +18,14 @@ use Rattle.clock.specs.Billionths.{billion}
 use Rattle.stream.specs.declared.Stream.{Stream}
 use Rattle.stream.specs.Streams as stream
 use Rattle.stream.specs.Box.{streams}
+use Rattle.stream.specs.Streams.{listSize}
 use Rattle.queue.specs.declared.Queue.{Queue}
 use Rattle.queue.specs.Queues.{queue, validQueue}
 use Rattle.host.specs.declared.Host.{Host}
 use Rattle.host.specs.Hosts as hosts
 use Rattle.pci.proofs.Facts.{update-identity-kept}
 use Rattle.device.specs.declared.Hda.{Hda}
-use Rattle.device.specs.Devices.{listSize, validOf}
+use Rattle.device.specs.Devices.{validOf}
 use Rattle.device.specs.Machines.{checkOf, answerOf, finishOf}
 use Rattle.device.proofs.Checks.{Passed, device-parts, parts-device, passed, passes}
 use Rattle.device.proofs.Facts.{valid-change, finish-number}

@@ -9,9 +9,9 @@ use Rattle.word.specs.Place.{putAt}
 use Rattle.word.proofs.Lists.{length-part}
 use Rattle.stream.specs.declared.Stream.{Stream}
 use Rattle.stream.specs.Box.{streams}
+use Rattle.stream.specs.Streams.{listSize}
 use Rattle.host.specs.declared.Host.{Host}
 use Rattle.host.specs.Hosts.{failsOf}
-use Rattle.device.specs.Devices.{listSize}
 use Rattle.record.specs.Loads.{streamAt}
 use Rattle.parse.specs.States.{placeOf}
 use Rattle.restore.specs.Restores.{opensOf, refusedFrom, putPositions, Fits}

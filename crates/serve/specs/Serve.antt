@@ -8,13 +8,13 @@ use lib.Bits.{bitAnd}
 use Rattle.word.specs.Place.{wordAt}
 use Rattle.word.specs.Parts.{partOf, withPart}
 use Rattle.word.specs.Each.{eachOf}
-use Rattle.stream.specs.Streams.{places}
+use Rattle.stream.specs.Streams.{places, listSize}
 use Rattle.stream.specs.Box.{streams}
 use Rattle.queue.specs.Queues.{capacity}
 use Rattle.host.specs.Hosts.{queueAt}
 use Rattle.registers.specs.Places.{ssync, ctl, byteAt, has}
 use Rattle.turn.specs.Turns.{Turn, turnOf}
-use Rattle.device.specs.Devices.{listSize, withRegs, withStream, streamAt}
+use Rattle.device.specs.Devices.{withRegs, withStream, streamAt}
 use Rattle.device.specs.Machines.{Machine, machine}
 use Rattle.serve.specs.declared.Served.{Served}
 

@@ -11,8 +11,9 @@ use Rattle.word.proofs.Lists.{length-part}
 use Rattle.stream.specs.declared.Stream.{Stream}
 use Rattle.stream.specs.Streams as stream
 use Rattle.stream.specs.Box.{streams}
+use Rattle.stream.specs.Streams.{listSize}
 use Rattle.device.specs.declared.Hda.{Hda}
-use Rattle.device.specs.Devices.{listSize, streamAt, freshOf}
+use Rattle.device.specs.Devices.{streamAt, freshOf}
 use Rattle.record.specs.Devices.{headOf, numbersOf}
 use Rattle.record.specs.Typed.{Sized}
 use Rattle.record.proofs.Sizes.{length-head, length-numbers}

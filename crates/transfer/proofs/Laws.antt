@@ -12,6 +12,7 @@ use Rattle.gain.specs.declared.Gain.{Gain}
 use Rattle.gain.specs.Gain.{amplifiedOf}
 use Rattle.stream.specs.declared.Stream.{Stream}
 use Rattle.stream.specs.declared.Cyclic.{Cyclic}
+use Rattle.stream.specs.Streams.{period}
 use Rattle.plan.specs.Plans.{readyOf}
 use Rattle.pieces.specs.Pieces.{Out, stateOf, piecesOf}
 use Rattle.queue.specs.declared.Queue.{Queue}
@@ -24,10 +25,10 @@ take-silence (suc n) zero h = absurd (omega arith)
 take-silence (suc n) (suc k) h = ap (λ (l : List ℕ). 0 ∷ l) (take-silence n k (omega arith))
 
 -- the first `count` bytes of a silent period, as the code computes their count
-pub silent-period : (count : ℕ) → count ≤ 1024 → take (count - 0) (silence 1024) ≡ silence count
+pub silent-period : (count : ℕ) → count ≤ period → take (count - 0) (silence period) ≡ silence count
 silent-period count h =
     let e : count - 0 ≡ count = omega arith in
-    ap (λ (n : ℕ). take n (silence 1024)) e ∙ take-silence count 1024 h
+    ap (λ (n : ℕ). take n (silence period)) e ∙ take-silence count period h
 
 pub drop-silence : (n k : ℕ) → drop n (silence k) ≡ silence (k - n)
 drop-silence zero k = let e : k ≡ k - 0 = omega arith in ap silence e

@@ -11,7 +11,7 @@ use Rattle.word.proofs.Lists.{at-set}
 use Rattle.codec.specs.declared.Codec.{Codec}
 use Rattle.stream.specs.declared.Stream.{Stream}
 use Rattle.stream.specs.Box.{captures}
-use Rattle.stream.specs.Streams.{validOf}
+use Rattle.stream.specs.Streams.{listSize, validOf}
 use Rattle.plan.proofs.Laws.{ready-byte}
 use Rattle.pieces.specs.Pieces.{stateOf}
 use Rattle.pieces.proofs.Facts.{pieces-list-length}
@@ -39,7 +39,7 @@ pub record Sound (size : ℕ) (s : Stream) (q : Queue) (l : List ℕ) : Type 0 w
   pub queue : validQueue q ≡ true
 
 -- every step of a turn keeps that
-module _ (size : ℕ) (long : 34816 ≤ size) where
+module _ (size : ℕ) (long : listSize ≤ size) where
   pub sound-kept : Kept (Sound size)
   sound-kept =
       record {
@@ -60,7 +60,7 @@ module _ (size : ℕ) (long : 34816 ≤ size) where
               queue = v .queue;
             };
         moves = λ g s q connected left right l part m n v.
-            let room : 34816 ≤ length l = omega (arith, v .sized) in
+            let room : listSize ≤ length l = omega (arith, v .sized) in
             let moved = transfer-stream g s q connected left right l part m (4 * n) (λ s′ l′. (length l′ ≡ size) × (validOf s′ l′ ≡ true)) (v .sized, v .stream)
             (λ pcm ready. (pieces-list-length g (4 * n) (4 * n) (stateOf s l m pcm 0) room ∙ v .sized, pieces-valid g (4 * n) (ready-byte g ready) (4 * n) (stateOf s l m pcm 0) room (v .stream))) in
             record {
@@ -81,7 +81,7 @@ unfolding openStreamOf
 open-stream-valid h microphone i v =
     by-cond (λ (o : Opening). hosts.validOf (o .host) ≡ true) (captures i && not microphone) (openingOf true h) (openOf h i) (λ _. v) (λ _. open-valid h v i)
 
-module _ (regs : List ℕ) (codec : Codec) (h : Host) (microphone : Bool) (i nanos limit : ℕ) (s : Stream) (l part m : List ℕ) (long : 34816 ≤ length l) (stream : validOf s l ≡ true) where
+module _ (regs : List ℕ) (codec : Codec) (h : Host) (microphone : Bool) (i nanos limit : ℕ) (s : Stream) (l part m : List ℕ) (long : listSize ≤ length l) (stream : validOf s l ≡ true) where
   abbrev after : Turn
   after = turnOf regs codec h microphone i nanos limit s l part m
 

@@ -2,9 +2,8 @@
 use Prim.Native.Nat.{_+_, _-_, _*_}
 use native.Mathlib.Omega.{arith}
 use borrow.Author.Needs.{needs}
-use Rattle.stream.specs.Streams.{freshOf}
+use Rattle.stream.specs.Streams.{listSize, freshOf}
 use Rattle.queue.specs.Queues.{capacity}
-use Rattle.device.specs.Devices.{listSize}
 use Rattle.serve.proofs.Turns.{turn-needs, turn-taken}
 use Rattle.serve.proofs.turn_at.Statement.{statement}
 use Rattle.serve.proofs.turn_at.Tie as tie
