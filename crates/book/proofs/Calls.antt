@@ -6,9 +6,9 @@ use mathlib.Core.List.{List, [], _∷_}
 use borrow.Author.Tests.{eqb-true}
 use lib.Dec.{eqb, ltb}
 use lib.ListN.{length}
+use Rattle.word.proofs.Choices.{by-cond, by-both, by-not}
 use Rattle.clock.proofs.Theorems.{advance-fraction}
 use Rattle.stream.specs.Box.{streams}
-use Rattle.queue.proofs.Tests.{by-cond}
 use Rattle.registers.specs.Places.{gctl, byteAt, has, dmaOf}
 use Rattle.rings.specs.Rings.{ringsOf}
 use Rattle.rings.proofs.Facts.{commands-few}
@@ -29,7 +29,6 @@ use Rattle.book.specs.Events.{onlyIf, serveEvents, advanceEvents, contro
 use Rattle.book.specs.Lists.{Step, handed, run, allEvents}
 use Rattle.book.specs.Claim.{NotRestored, NoRestore}
 use Rattle.book.proofs.Ghosts.{Ghost, sees, sees-append}
-use Rattle.book.proofs.Loops.{by-both, by-not}
 use Rattle.book.proofs.Machines.{Held}
 use Rattle.book.proofs.Serve.{Fine, serve-held}
 use Rattle.book.proofs.Control.{tail-held}

@@ -6,13 +6,13 @@ use mathlib.Core.List.{List, [], _∷_, _++_}
 use native.Mathlib.Omega.{arith}
 use borrow.Author.Tests.{eqb-true, ne-eqb}
 use lib.Dec.{eqb}
+use Rattle.word.proofs.Choices.{by-cond}
 use Rattle.stream.specs.Box.{streams}
 use Rattle.stream.specs.Update.{updateOf}
 use Rattle.pieces.specs.Pieces.{stateOf}
 use Rattle.pieces.proofs.Turns.{pieces-keep}
 use Rattle.pieces.proofs.Facts.{next-consumed}
 use Rattle.queue.specs.Queues.{latencyOf}
-use Rattle.queue.proofs.Tests.{by-cond}
 use Rattle.turn.specs.declared.Setup.{Setup}
 use Rattle.turn.specs.declared.Engine.{Engine}
 use Rattle.turn.specs.Engines.{Work, workOf, stoppedOf, positionOf, movedOn, Updated, updatedOf, withUpdated, framesOf, transferredOf, transferAt, settledOf, roundOf, again, roundsOf, accruedOf, dueOf, timedOf, servedOf}

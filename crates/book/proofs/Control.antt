@@ -8,24 +8,24 @@ use native.Mathlib.Omega.{arith}
 use Rattle.word.specs.Place.{wordAt}
 use Rattle.word.specs.Parts.{partOf}
 use Rattle.word.specs.Each.{eachOf, always}
+use Rattle.word.proofs.Choices.{by-cond, by-both}
 use Rattle.format.specs.declared.Format.{Format}
 use Rattle.format.specs.declared.Format.the-variants.{Unsupported, Rate}
 use Rattle.format.specs.Format.{formatOf}
 use Rattle.stream.specs.Box.{streams}
-use Rattle.queue.proofs.Tests.{by-cond}
+use Rattle.stream.specs.Streams.{listSize}
 use Rattle.registers.specs.Places.{gctl, ctl, fmt, byteAt, has}
 use Rattle.turn.specs.Engines.{stoppedOf}
 use Rattle.turn.specs.Turns.{openStreamOf}
 use Rattle.turn.specs.Failures.{Channel, errorOf}
 use Rattle.control.specs.Channels.{resetOf, haltedOf, startedBy, startedOf, heldOf, settledOf}
-use Rattle.device.specs.Devices.{listSize}
 use Rattle.settle.specs.declared.Ports.{Ports}
 use Rattle.settle.specs.Settle.{ports, channelAt, clearedOf, resetAt, resetControllerOf, settleAt, settleOf}
 use Rattle.write.specs.Writes.{controlledOf, flushedOf, tailOf}
 use Rattle.book.specs.Book.{Event, reset}
 use Rattle.book.specs.Events.{controllerEvents, settleEvents}
 use Rattle.book.proofs.Ghosts.{Ghost, see, sees}
-use Rattle.book.proofs.Loops.{by-both, each-around}
+use Rattle.book.proofs.Loops.{each-around}
 use Rattle.book.proofs.Tied.{Tied, tied-times, tied-reset}
 use Rattle.book.proofs.Machines.{Held, held-own, held-other}
 

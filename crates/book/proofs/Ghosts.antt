@@ -2,6 +2,7 @@
 use mathlib.Core.Path.{_≡_, refl, sym, ap, _∙_}
 use mathlib.Core.Bool.{Bool, true, false, _||_, true≢false}
 use mathlib.Core.List.{List, [], _∷_, _++_}
+use Rattle.word.proofs.Choices.{neither}
 use Rattle.book.specs.Book.{Book, Event, reset, restored, moved, updated, failed, note, notes}
 use Rattle.book.specs.Claim.{NeverFull}
 
@@ -35,20 +36,12 @@ unfolding notes
 sees-book [] a = refl
 sees-book (e ∷ es) a = sees-book es (see e a)
 
--- neither of two that are not one
-or-left : (x y : Bool) → (x || y) ≡ false → x ≡ false
-or-left true y e = e
-or-left false y e = refl
-
-or-right : (x y : Bool) → (x || y) ≡ false → y ≡ false
-or-right true y e = absurd (true≢false e)
-or-right false y e = e
-
 never-seen : (es : List Event) (a : Ghost) → sees es a .full ≡ false → (a .full ≡ false) × NeverFull es
 never-seen [] a h = (h, tt)
 never-seen (e ∷ es) a h =
     let r = never-seen es (see e a) h in
-    (or-right (isFull e) (a .full) (r .0), (λ p. true≢false (sym (ap isFull p) ∙ or-left (isFull e) (a .full) (r .0)), r .1))
+    let n = neither (isFull e) (a .full) (r .0) in
+    (n .1, (λ p. true≢false (sym (ap isFull p) ∙ n .0), r .1))
 
 pub never-full : (es : List Event) (a : Ghost) → sees es a .full ≡ false → NeverFull es
 never-full es a h = never-seen es a h .1

@@ -1,19 +1,10 @@
--- A loop over numbers split at one of them, what it keeps over a range, and choices by the same test. Assumes nothing.
+-- A loop over numbers split at one of them, and what it keeps over a range. Assumes nothing.
 use Prim.Native.Nat.{ℕ, zero, suc, _+_, _<_, _≤_}
 use mathlib.Core.Path.{_≡_, refl}
-use mathlib.Core.Bool.{Bool, true, false, cond, not}
+use mathlib.Core.Bool.{Bool, true, false}
 use native.Mathlib.Omega.{arith}
 use Rattle.word.specs.Each.{eachOf, further, always}
-
--- what holds of both pairs of outcomes holds of two choices by one test
-pub by-both : {A B : Type 0} (P : A → B → Type 0) (b : Bool) (x y : A) (u v : B) → (b ≡ true → P x u) → (b ≡ false → P y v) → P (cond b x y) (cond b u v)
-by-both P true x y u v f g = f refl
-by-both P false x y u v f g = g refl
-
--- .. and where the second goes by the test's opposite
-pub by-not : {A B : Type 0} (P : A → B → Type 0) (b : Bool) (x y : A) (u v : B) → (b ≡ true → P x v) → (b ≡ false → P y u) → P (cond b x y) (cond (not b) u v)
-by-not P true x y u v f g = f refl
-by-not P false x y u v f g = g refl
+use Rattle.word.proofs.Each.{by-further}
 
 module _ {A : Type 0} (on : A → Bool) (f : ℕ → A → A) where
   split-step : (b : Bool) (n k m j i : ℕ) (y : A) → on y ≡ b
@@ -33,10 +24,6 @@ module _ {A : Type 0} (on : A → Bool) (f : ℕ → A → A) where
   each-split (suc n) k zero j i x em ei e = absurd (omega arith)
   each-split (suc n) k (suc m) j i x em ei e =
       split-step (on (f j x)) n k m (j + 1) i (f j x) refl (λ go. each-split n k m (j + 1) i (f j x) (omega arith) (omega arith) go)
-
-  by-further : (P : A → Type 0) (b : Bool) (y : A) (rest : A → A) → P y → P (rest y) → P (further b y rest)
-  by-further P true y rest p q = q
-  by-further P false y rest p q = p
 
   -- what the turns of a range keep
   pub each-range : (P : A → Type 0) (lo count : ℕ) → ((j : ℕ) (x : A) → lo ≤ j → j < count → P x → P (f j x))

@@ -4,14 +4,14 @@ use mathlib.Core.Path.{_≡_, _∙_}
 use mathlib.Core.List.{List}
 use mathlib.Core.Logic.{_⊎_, _≢_, ⊎-elim}
 use native.Mathlib.Omega.{arith}
-use lib.ListN.{length, drop, getD, set, length-set, length-drop}
-use lib.Seq.{getD-set-same, getD-set-other, length-take-le}
+use lib.ListN.{length, getD, set, length-set}
+use lib.Seq.{getD-set-same, getD-set-other}
 use Rattle.word.specs.Parts.{partOf, withPart}
+use Rattle.word.proofs.Lists.{length-part}
 use Rattle.word.proofs.Parts.{length-with-part, part-same, part-other}
 use Rattle.stream.specs.declared.Stream.{Stream}
-use Rattle.stream.specs.Streams.{freshOf}
+use Rattle.stream.specs.Streams.{listSize, freshOf}
 use Rattle.stream.specs.Box.{streams}
-use Rattle.device.specs.Devices.{listSize}
 use Rattle.book.proofs.Ghosts.{Ghost}
 use Rattle.book.proofs.Tied.{Tied}
 
@@ -22,7 +22,7 @@ pub record Held (F : Type 0) (i : ℕ) (ss : List Stream) (lists : List ℕ) (a 
 
 -- stream i's part of long enough lists
 pub part-size : (i : ℕ) (lists : List ℕ) → i < streams → listSize * streams ≤ length lists → length (partOf listSize i lists) ≡ listSize
-part-size i lists few space = length-take-le listSize (drop (listSize * i) lists) (omega (arith, length-drop (listSize * i) lists))
+part-size i lists few space = length-part listSize (listSize * i) lists (omega arith)
 
 module _ (F : Type 0) (i : ℕ) (few : i < streams) (ss : List Stream) (lists : List ℕ) (a : Ghost) (h : Held F i ss lists a) where
   -- its own record, with its list as it is or with another

@@ -6,6 +6,7 @@ use mathlib.Core.List.{List, append-nil}
 use native.Mathlib.Omega.{arith}
 use borrow.Author.Tests.{lt-ltb, le-ltb}
 use Rattle.stream.specs.declared.Cyclic.{Cyclic}
+use Rattle.stream.specs.Streams.{period}
 use Rattle.plan.specs.declared.Plan.{Plan}
 use Rattle.plan.specs.declared.Plan.the-variants.{Failed, Full, Move}
 use Rattle.plan.specs.Plans.{planOf}
@@ -30,7 +31,7 @@ full-one : (g : Cyclic) (count : ℕ) (x : State) → x .done < count → planOf
 unfolding piecesOf pieceOf doneOf
 full-one g count x more e = rw (lt-ltb (x .done) count more, e)
 
-module _ (F : Type 0) (g : Cyclic) (count : ℕ) (short : count ≤ 1024) (byte : g .lvi ≤ 255) where
+module _ (F : Type 0) (g : Cyclic) (count : ℕ) (short : count ≤ period) (byte : g .lvi ≤ 255) where
   not-full : (x : State) (a : Ghost) → x .done < count → Going F count x a → planOf g (x .stream) (x .memory) (count - x .done) ≡ Full → F → ⊥
   not-full x a more t e f =
       true≢false (sym (full-one g count x more e)

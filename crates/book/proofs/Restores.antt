@@ -9,15 +9,14 @@ use lib.Dec.{eqb}
 use lib.ListN.{length, drop, getD}
 use lib.Seq.{take-take}
 use Rattle.word.specs.Parts.{partOf}
+use Rattle.word.proofs.Choices.{by-cond, by-both}
 use Rattle.positions.specs.Positions.{positionsOf}
 use Rattle.positions.proofs.View.{positions-take}
 use Rattle.stream.specs.declared.Stream.{Stream}
-use Rattle.stream.specs.Streams.{freshOf}
+use Rattle.stream.specs.Streams.{listSize, freshOf}
 use Rattle.stream.specs.Box.{streams}
-use Rattle.queue.proofs.Tests.{by-cond}
 use Rattle.host.specs.declared.Host.{Host}
 use Rattle.device.specs.declared.Hda.{Hda}
-use Rattle.device.specs.Devices.{listSize}
 use Rattle.device.specs.Machines.{checkOf, answerOf, finishOf}
 use Rattle.record.specs.Rows.{rowOf}
 use Rattle.record.proofs.Places.{row-at}
@@ -30,7 +29,6 @@ use Rattle.restore.proofs.Theorems.{number-taken}
 use Rattle.book.specs.Book.{Book, Event, restoredWith, note}
 use Rattle.book.specs.Events.{onlyIf, restoredEvent}
 use Rattle.book.proofs.Ghosts.{Ghost, sees}
-use Rattle.book.proofs.Loops.{by-both}
 use Rattle.book.proofs.Tied.{tied-opening}
 use Rattle.book.proofs.Machines.{Held, part-size}
 

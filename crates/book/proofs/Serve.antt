@@ -9,17 +9,18 @@ use lib.ListN.{length}
 use Rattle.word.specs.Place.{wordAt}
 use Rattle.word.specs.Parts.{partOf}
 use Rattle.word.specs.Each.{eachOf, further}
+use Rattle.word.proofs.Choices.{by-cond, by-both}
 use Rattle.word.proofs.Parts.{length-with-part}
 use Rattle.format.specs.Format.{formatOf}
 use Rattle.stream.specs.Box.{streams}
+use Rattle.stream.specs.Streams.{listSize}
 use Rattle.queue.specs.Queues.{capacity}
-use Rattle.queue.proofs.Tests.{by-cond}
 use Rattle.host.specs.Hosts as hosts
 use Rattle.host.proofs.Checks.{valid-queue}
 use Rattle.registers.specs.Places.{fmt}
 use Rattle.turn.specs.Turns.{Turn, turnOf}
 use Rattle.turn.proofs.Validity.{Sound, turn-valid, turn-host-valid}
-use Rattle.device.specs.Devices.{listSize, withRegs, streamAt, validOf}
+use Rattle.device.specs.Devices.{withRegs, streamAt, validOf}
 use Rattle.device.specs.Machines.{Machine}
 use Rattle.device.proofs.Checks.{device-parts}
 use Rattle.device.proofs.Facts.{valid-change, with-stream-valid}
@@ -27,7 +28,7 @@ use Rattle.serve.specs.Serve.{Turns, turnsOf, runs, takenOf, turnAt, goesOn, se
 use Rattle.book.specs.Book.{Event}
 use Rattle.book.specs.Events.{formattedEvents, turnEvents, serveEvents}
 use Rattle.book.proofs.Ghosts.{Ghost, sees}
-use Rattle.book.proofs.Loops.{by-both, each-split, each-range, each-turn}
+use Rattle.book.proofs.Loops.{each-split, each-range, each-turn}
 use Rattle.book.proofs.Turns.{formatted-tied}
 use Rattle.book.proofs.Machines.{Held, part-size, held-own-list, held-other-list}
 

@@ -9,11 +9,12 @@ use Rattle.word.specs.Parts.{partOf}
 use Rattle.positions.specs.Positions.{positionsOf}
 use Rattle.stream.specs.Streams as stream
 use Rattle.stream.specs.Box.{streams}
+use Rattle.stream.specs.Streams.{listSize}
 use Rattle.stream.proofs.Validity.{valid-parts, fresh-valid}
 use Rattle.pieces.proofs.Spacing.{SpacedAt, fresh-spaced}
 use Rattle.queue.specs.Queues.{capacity}
 use Rattle.host.specs.declared.Host.{Host}
-use Rattle.device.specs.Devices.{listSize, freshOf, streamAt}
+use Rattle.device.specs.Devices.{freshOf, streamAt}
 use Rattle.device.specs.Machines.{Machine}
 use Rattle.device.proofs.Checks.{passed}
 use Rattle.restore.proofs.Theorems.{restored-valid}

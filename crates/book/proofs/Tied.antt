@@ -10,7 +10,7 @@ use Rattle.positions.specs.Positions.{positionsOf}
 use Rattle.positions.proofs.Change.{retire-drops}
 use Rattle.stream.specs.declared.Stream.{Stream}
 use Rattle.stream.specs.declared.Cyclic.{Cyclic}
-use Rattle.stream.specs.Streams.{freshOf, validOf}
+use Rattle.stream.specs.Streams.{listSize, freshOf, validOf}
 use Rattle.stream.specs.Update.{consumedOf, retiredOf, updateOf}
 use Rattle.stream.proofs.Validity.{valid-parts, parts-valid, fresh-valid, retired-few, update-list-length, update-valid}
 use Rattle.plan.specs.declared.End.{End}
@@ -24,7 +24,6 @@ use Rattle.pieces.proofs.Positions.{moved-positions}
 use Rattle.pieces.proofs.Spacing.{SpacedAt, fresh-spaced, update-spaced, moved-spaced}
 use Rattle.turn.specs.Engines.{withFraction}
 use Rattle.turn.proofs.Rounds.{time}
-use Rattle.device.specs.Devices.{listSize}
 use Rattle.book.specs.Book.{Book, reset, moved, updated, upTo, above, restoredWith, movedBy, note}
 use Rattle.book.specs.Events.{flaggedOf}
 use Rattle.book.specs.Claim.{Rises}
@@ -116,7 +115,7 @@ module _ (F : Type 0) where
       let v = valid-parts s l (t .valid) in
       let b = a .book in
       let view = positionsOf (s .pending) l in
-      let room : 34816 ≤ length l = omega (arith, t .sized) in
+      let room : listSize ≤ length l = omega (arith, t .sized) in
       let k = retiredOf s l latency in
       let c = consumedOf s latency in
       let c′ = max (b .consumed) (b .submitted - latency) in
@@ -148,7 +147,7 @@ module _ (F : Type 0) where
     tied-moved x a at n end more k room t =
         let s = x .stream in
         let b = a .book in
-        let long : 34816 ≤ length (x .list) = omega (arith, t .sized) in
+        let long : listSize ≤ length (x .list) = omega (arith, t .sized) in
         record {
           sized = length-list (x .list) s n end (k .room) long ∙ t .sized;
           valid = parts-valid _ _ (moved-kept g count byte x at n end more k (long, valid-parts s (x .list) (t .valid)) .1);

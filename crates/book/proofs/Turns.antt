@@ -1,5 +1,5 @@
 -- A stream's turn keeps it tied to the book: the position update, a transfer, the rounds, the turn. Assumes nothing.
-use Prim.Native.Nat.{ℕ, zero, suc, _+_, _-_, _*_, _/_, _%_, _≤_, _<_, min}
+use Prim.Native.Nat.{ℕ, zero, suc, _+_, _-_, _*_, _/_, _≤_, _<_, min}
 use mathlib.Core.Path.{_≡_, refl, sym, _∙_}
 use mathlib.Core.Bool.{Bool, true, false, true≢false}
 use mathlib.Core.List.{List, [], _∷_}
@@ -7,20 +7,19 @@ use mathlib.Core.Logic.{_⊎_, inl, inr, ⊎-elim}
 use native.Mathlib.Omega.{arith}
 use borrow.Author.Tests.{leb-true, eqb-false}
 use lib.Dec.{leb, eqb}
-use lib.ListN.{length}
+use Rattle.word.proofs.Choices.{left, by-cond, by-both}
 use Rattle.format.specs.declared.Format.{Format}
 use Rattle.format.specs.declared.Format.the-variants.{Unsupported, Rate}
 use Rattle.codec.specs.declared.Codec.{Codec}
 use Rattle.clock.specs.Frames.{wholeFramesOf}
 use Rattle.clock.proofs.Theorems.{accrue-bound}
 use Rattle.stream.specs.declared.Stream.{Stream}
-use Rattle.stream.specs.declared.Cyclic.{Cyclic}
 use Rattle.stream.specs.Update.{updateOf}
 use Rattle.plan.specs.Plans.{readyOf}
+use Rattle.plan.proofs.Laws.{ready-byte}
 use Rattle.pieces.specs.Pieces.{State, stateOf, piecesOf}
 use Rattle.queue.specs.declared.Queue.{Queue}
 use Rattle.queue.specs.Queues.{capacity, latencyOf}
-use Rattle.queue.proofs.Tests.{left, by-cond}
 use Rattle.queue.proofs.Validity.{queue-bound}
 use Rattle.transfer.specs.Transfers.{Transfer, transferOut, withPieces, silence, takenOf, capturedOf, captureOf, playbackOf, transferOf}
 use Rattle.host.specs.declared.Host.{Host}
@@ -37,16 +36,8 @@ use Rattle.turn.proofs.Validity.{open-stream-valid}
 use Rattle.book.specs.Book.{Event, failed, note}
 use Rattle.book.specs.Events.{onlyIf, piecesEvents, transferEvents, updateEvent, roundEvents, againRounds, roundsEvents, timedEvents, servedEvents, formattedEvents}
 use Rattle.book.proofs.Ghosts.{Ghost, see, sees, sees-append}
-use Rattle.book.proofs.Loops.{by-both}
 use Rattle.book.proofs.Tied.{Tied, tied-times, tied-updated}
 use Rattle.book.proofs.Pieces.{Going, pieces-tied}
-
--- a ready buffer's last descriptor has a byte's index
-ready-byte : (g : Cyclic) → readyOf g ≡ true → g .lvi ≤ 255
-unfolding readyOf
-ready-byte g =
-    by-cond (λ (b : Bool). b ≡ true → g .lvi ≤ 255) (eqb (g .cbl) 0) false _ (λ _ z. absurd (true≢false (sym z)))
-    (λ _. by-cond (λ (b : Bool). b ≡ true → g .lvi ≤ 255) (eqb (g .cbl % 4) 0) (leb (g .lvi) 255) false (λ _. leb-true (g .lvi) 255) (λ _ z. absurd (true≢false (sym z))))
 
 pub update-near : (s : Stream) (l : List ℕ) (latency : ℕ) → let u = updateOf s l latency .updated .stream in u .submitted ≤ u .consumed + latency
 unfolding updateOf

@@ -5,9 +5,10 @@ use mathlib.Core.Bool.{Bool, true}
 use mathlib.Core.List.{List, [], _∷_, _++_}
 use lib.ListN.{length}
 use Rattle.stream.specs.Box.{streams}
+use Rattle.stream.specs.Streams.{listSize}
 use Rattle.queue.specs.Queues.{capacity}
 use Rattle.host.specs.declared.Host.{Host}
-use Rattle.device.specs.Devices.{listSize, freshOf, streamAt}
+use Rattle.device.specs.Devices.{freshOf, streamAt}
 use Rattle.device.specs.Machines.{Machine, machine, checkMachine}
 use Rattle.restore.specs.Restores.{numberOf}
 use Rattle.calls.specs.Calls.{Call, after}

@@ -10,6 +10,7 @@ use Rattle.word.specs.Place.{wordAt}
 use Rattle.format.specs.declared.Format.the-variants.{Unsupported}
 use Rattle.format.specs.Format.{formatOf}
 use Rattle.stream.specs.Box.{streams}
+use Rattle.stream.specs.Streams.{listSize}
 use Rattle.queue.specs.Queues.{capacity, latencyOf}
 use Rattle.host.specs.declared.Host.{Host}
 use Rattle.host.specs.Hosts.{maxDownstream}
@@ -19,7 +20,7 @@ use Rattle.turn.specs.declared.Engine.{Engine}
 use Rattle.turn.specs.Engines.{Work, positionOf, servedOf}
 use Rattle.turn.specs.Turns.{openStreamOf}
 use Rattle.device.specs.declared.Hda.{Hda}
-use Rattle.device.specs.Devices.{listSize, streamAt}
+use Rattle.device.specs.Devices.{streamAt}
 use Rattle.device.specs.Machines.{Machine}
 use Rattle.serve.specs.Serve.{Turns, runs, turnAt}
 use Rattle.calls.specs.Calls as calls

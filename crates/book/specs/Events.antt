@@ -15,6 +15,7 @@ use Rattle.codec.specs.declared.Codec.{Codec}
 use Rattle.positions.specs.Positions.{positionsOf}
 use Rattle.stream.specs.declared.Stream.{Stream}
 use Rattle.stream.specs.declared.Cyclic.{Cyclic}
+use Rattle.stream.specs.Streams.{listSize}
 use Rattle.plan.specs.declared.End.{End}
 use Rattle.plan.specs.declared.End.the-variants.{Inside, Plain, Flagged}
 use Rattle.plan.specs.declared.Plan.{Plan}
@@ -32,7 +33,7 @@ use Rattle.turn.specs.declared.Engine.{Engine}
 use Rattle.turn.specs.Setups.{setupOf}
 use Rattle.turn.specs.Engines.{Work, workOf, updatedOf, withUpdated, framesOf, transferAt, transferredOf, roundOf, accruedOf, dueOf}
 use Rattle.turn.specs.Turns.{openStreamOf, engineOf}
-use Rattle.device.specs.Devices.{listSize, streamAt}
+use Rattle.device.specs.Devices.{streamAt}
 use Rattle.device.specs.Machines.{Machine, checkMachine, withCommanded, commandedOf}
 use Rattle.settle.specs.declared.Ports.{Ports}
 use Rattle.settle.specs.Settle.{ports, settleAt}

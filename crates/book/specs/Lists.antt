@@ -5,8 +5,9 @@ use mathlib.Core.Bool.{Bool}
 use mathlib.Core.List.{List, [], _∷_, _++_}
 use Rattle.positions.specs.Positions.{positionsOf}
 use Rattle.word.specs.Parts.{partOf}
+use Rattle.stream.specs.Streams.{listSize}
 use Rattle.host.specs.Hosts.{host}
-use Rattle.device.specs.Devices.{listSize, streamAt}
+use Rattle.device.specs.Devices.{streamAt}
 use Rattle.device.specs.Machines.{Machine, machine}
 use Rattle.calls.specs.Calls.{Call, after}
 use Rattle.book.specs.Book.{Book, Event, restoredWith, notes}

@@ -6,17 +6,19 @@ use mathlib.Core.List.{List}
 use native.Mathlib.Omega.{arith}
 use lib.ListN.{length}
 use Rattle.word.specs.Parts.{partOf}
+use Rattle.word.proofs.Choices.{by-cond}
 use Rattle.word.proofs.Each.{each-keeps-until}
 use Rattle.word.proofs.Parts.{length-with-part}
 use Rattle.clock.proofs.Theorems.{advance-fraction}
 use Rattle.stream.specs.Box.{streams}
+use Rattle.stream.specs.Streams.{listSize}
 use Rattle.queue.specs.Queues.{capacity}
-use Rattle.queue.proofs.Tests.{by-cond}
 use Rattle.host.proofs.Checks.{valid-queue}
 use Rattle.registers.specs.Places.{gctl, walclk, byteAt, has, dmaOf}
+use Rattle.registers.proofs.Files.{file-store}
 use Rattle.turn.specs.Turns.{Turn, turnOf}
 use Rattle.turn.proofs.Validity.{turn-valid, turn-host-valid}
-use Rattle.device.specs.Devices.{listSize, streamAt, withRegs}
+use Rattle.device.specs.Devices.{streamAt, withRegs}
 use Rattle.device.specs.Machines.{Machine, withCommanded, commandedOf}
 use Rattle.device.proofs.Checks.{device-parts}
 use Rattle.device.proofs.Facts.{with-stream-valid}
@@ -24,7 +26,6 @@ use Rattle.settle.specs.Settle.{ports}
 use Rattle.serve.specs.Serve.{runs, Turns, turnsOf, takenOf, turnAt, goesOn, serveOf}
 use Rattle.serve.proofs.Turns.{length-part}
 use Rattle.advance.specs.Advance.{tickedOf, numberOf, afterCommands, advanceStep, advanceOf}
-use Rattle.calls.proofs.Registers.{file-store}
 use Rattle.calls.proofs.Turns.{turn-file}
 use Rattle.calls.proofs.Devices.{Holds, device-changed, with-file, part-size, commanded-holds, Stands, Leaves, unchanged-leaves, finished-leaves, checked-leaves, commanded-stands}
 
@@ -52,7 +53,7 @@ module _ (nanos : ℕ) where
       let long : length l ≡ listSize = part-size (x .lists) (s .lists) i few in
       let fits : capacity * i + capacity ≤ length (x .queues) = omega (arith, s .queues) in
       let wide : length q ≡ capacity = length-part capacity i capacity (x .queues) fits in
-      let room : 34816 ≤ length l = omega arith in
+      let room : listSize ≤ length l = omega arith in
       let stream = device-parts d (x .lists) (h .device) .streams i few in
       let queue = valid-queue (x .host) (h .host) i in
       let sound = turn-valid (d .regs) (d .link .codec) (x .host) (d .microphone) i nanos capacity (streamAt d i) l q (x .memory) room stream queue in

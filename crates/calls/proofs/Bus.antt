@@ -4,10 +4,10 @@ use mathlib.Core.List.{List, [], _∷_}
 use native.Mathlib.Omega.{arith}
 use lib.Dec.{eqb, ltb}
 use Rattle.word.specs.Value.{Bytes}
-use Rattle.queue.proofs.Tests.{by-cond}
+use Rattle.word.proofs.Choices.{by-cond}
 use Rattle.registers.specs.Places.{size, rirbwp, icis, has}
+use Rattle.registers.proofs.Files.{File, file-store, file-write}
 use Rattle.bus.specs.Bus.{Front, byteOf, bytesOf}
-use Rattle.calls.proofs.Registers.{File, file-store, file-write}
 use Rattle.calls.proofs.Rings.{immediate-file}
 
 abbrev Filed : Front → Type 0

@@ -6,7 +6,7 @@ use mathlib.Core.List.{List}
 use native.Mathlib.Omega.{arith}
 use lib.Dec.{eqb, ltb}
 use lib.ListN.{length}
-use Rattle.queue.proofs.Tests.{by-cond}
+use Rattle.word.proofs.Choices.{by-cond}
 use Rattle.registers.specs.Places.{rintcnt, has}
 use Rattle.rings.specs.Rings.{ringsOf}
 use Rattle.rings.proofs.Facts.{response-few}

@@ -5,19 +5,19 @@ use mathlib.Core.Bool.{Bool, not, _&&_}
 use mathlib.Core.List.{List}
 use native.Mathlib.Omega.{arith}
 use Rattle.word.specs.Place.{wordAt}
+use Rattle.word.proofs.Choices.{by-cond}
 use Rattle.format.specs.declared.Format.{Format}
 use Rattle.format.specs.declared.Format.the-variants.{Unsupported, Rate}
 use Rattle.format.specs.Format.{formatOf}
 use Rattle.stream.specs.Box.{streams}
 use Rattle.stream.proofs.Validity.{fresh-valid}
 use Rattle.host.proofs.Validity.{close-valid}
-use Rattle.queue.proofs.Tests.{by-cond}
 use Rattle.registers.specs.Places.{ctl, fmt, byteAt, has}
+use Rattle.registers.proofs.Files.{file-set, file-reset-stream}
 use Rattle.turn.specs.Turns.{openStreamOf}
 use Rattle.turn.specs.Failures.{Channel, channelOf}
 use Rattle.turn.proofs.Validity.{open-stream-valid}
 use Rattle.control.specs.Channels.{resetOf, haltedOf, startedBy, startedOf, settledOf}
-use Rattle.calls.proofs.Registers.{file-set, file-reset-stream}
 use Rattle.calls.proofs.Turns.{Whole, remainder-valid, error-whole}
 
 module _ (i : ℕ) (few : i < streams) (l : List ℕ) where

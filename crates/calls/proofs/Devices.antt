@@ -5,29 +5,30 @@ use mathlib.Core.Bool.{true}
 use mathlib.Core.List.{List}
 use native.Mathlib.Omega.{arith}
 use lib.Dec.{eqb}
-use lib.ListN.{length, drop, length-drop, take-append-drop}
-use lib.Seq.{length-take-le}
+use lib.ListN.{length, drop, take-append-drop}
 use Rattle.word.specs.Place.{wordAt}
 use Rattle.word.specs.Parts.{partOf, withPart}
+use Rattle.word.proofs.Choices.{by-cond}
+use Rattle.word.proofs.Lists.{length-part}
 use Rattle.word.proofs.Each.{each-keeps}
 use Rattle.clock.specs.Billionths.{billion}
 use Rattle.stream.specs.Box.{streams}
+use Rattle.stream.specs.Streams.{listSize}
 use Rattle.queue.specs.Queues.{capacity}
-use Rattle.queue.proofs.Tests.{by-cond}
 use Rattle.host.specs.declared.Host.{Host}
 use Rattle.host.specs.Hosts as hosts
 use Rattle.registers.specs.Places.{ctl, byteAt, dmaOf}
+use Rattle.registers.proofs.Files.{File, file-reset}
 use Rattle.rings.specs.Rings.{ringsOf}
 use Rattle.rings.proofs.Facts.{commands-few}
 use Rattle.turn.specs.Failures.{Channel}
 use Rattle.device.specs.declared.Hda.{Hda}
-use Rattle.device.specs.Devices.{listSize, withRegs, validOf}
+use Rattle.device.specs.Devices.{withRegs, validOf}
 use Rattle.device.specs.Machines.{Machine, machine, checkMachine, answerOf, Done, unchanged, checked, finishOf, finished, Commanded, commandedOf, withCommanded}
 use Rattle.device.proofs.Checks.{Valid, device-parts, parts-device, passed, passes}
 use Rattle.device.proofs.Facts.{with-stream-valid}
 use Rattle.settle.specs.declared.Ports.{Ports}
 use Rattle.settle.specs.Settle.{ports, channelAt, withChannel, clearedOf, resetAt, resetControllerOf, settleAt, settleOf}
-use Rattle.calls.proofs.Registers.{File, file-reset}
 use Rattle.calls.proofs.Pci.{update-word, update-file}
 use Rattle.calls.proofs.Turns.{Whole}
 use Rattle.calls.proofs.Control.{reset-whole, settled-whole}
@@ -80,7 +81,7 @@ module _ (l : List ℕ) (d : Hda) (h : Host) (holds : Holds l (ports d h)) where
 -- a step on one stream
 module _ (l : List ℕ) (space : listSize * streams ≤ length l) (i : ℕ) (few : i < streams) where
   pub part-size : length (partOf listSize i l) ≡ listSize
-  part-size = length-take-le listSize (drop (listSize * i) l) (omega (arith, length-drop (listSize * i) l))
+  part-size = length-part listSize (listSize * i) l (omega arith)
 
   same-lists : withPart listSize i l (partOf listSize i l) ≡ l
   same-lists = rw (take-append-drop listSize (drop (listSize * i) l), take-append-drop (listSize * i) l)

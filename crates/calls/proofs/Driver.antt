@@ -5,13 +5,13 @@ use mathlib.Core.List.{List}
 use native.Mathlib.Omega.{arith}
 use borrow.Author.Tests.{eqb-true}
 use lib.Dec.{eqb}
-use lib.ListN.{length, drop, length-drop}
-use lib.Seq.{length-take-le}
+use lib.ListN.{length}
 use Rattle.word.specs.Parts.{partOf, withPart}
+use Rattle.word.proofs.Choices.{by-cond}
+use Rattle.word.proofs.Lists.{length-part}
 use Rattle.word.proofs.Parts.{length-with-part}
 use Rattle.stream.specs.Box.{streams}
 use Rattle.queue.specs.Queues.{capacity, putOf, takeOf, takeIntoOf}
-use Rattle.queue.proofs.Tests.{by-cond}
 use Rattle.queue.proofs.Contents.{length-put-part, length-take-part}
 use Rattle.host.specs.declared.Host.{Host}
 use Rattle.host.specs.Hosts.{queueAt}
@@ -23,7 +23,7 @@ with-part-length : (i : ℕ) (space part : List ℕ) → i < streams → capacit
     → length (withPart capacity i space part) ≡ length space
 with-part-length i space part few room e =
     let fits : capacity * i + capacity ≤ length space = omega arith in
-    length-with-part capacity i space part (e ∙ length-take-le capacity (drop (capacity * i) space) (omega (arith, length-drop (capacity * i) space))) fits
+    length-with-part capacity i space part (e ∙ length-part capacity (capacity * i) space (omega arith)) fits
 
 module _ (h : Host) (space : List ℕ) where
   pub length-feed : (frames : List ℕ) → length (feedOf h space frames .space) ≡ length space

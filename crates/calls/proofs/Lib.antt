@@ -1,5 +1,4 @@
--- What each layer keeps of a valid machine, from the register file up to the calls; then the theorems over every call.
-pub mod Registers
+-- What each layer keeps of a valid machine, from the rings up to the calls; then the theorems over every call.
 pub mod Rings
 pub mod Pci
 pub mod Bus

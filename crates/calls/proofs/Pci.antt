@@ -5,10 +5,10 @@ use mathlib.Core.Bool.{Bool}
 use mathlib.Core.List.{List}
 use Rattle.word.specs.Value.{valueOf}
 use Rattle.word.specs.Place.{wordAt, storeAt}
+use Rattle.registers.proofs.Files.{File}
 use Rattle.configuration.specs.Configuration.{identity, freshOf, writeOf}
 use Rattle.pci.specs.Interrupts.{updateOf}
 use Rattle.pci.proofs.Facts.{identity-kept, update-identity-kept, length-update-regs, bytes-update-regs}
-use Rattle.calls.proofs.Registers.{File}
 
 pub fresh-word : wordAt 4 0 freshOf ≡ identity
 unfolding freshOf storeAt wordAt

@@ -5,12 +5,12 @@ use mathlib.Core.List.{List}
 use native.Mathlib.Omega.{arith}
 use borrow.Author.Tests.{eqb-true}
 use lib.Dec.{eqb}
-use lib.ListN.{length, drop, length-drop}
-use lib.Seq.{length-take-le}
+use lib.ListN.{length, drop}
 use Rattle.word.specs.Value.{Bytes}
-use Rattle.word.proofs.Lists.{bytes-take, bytes-drop}
-use Rattle.queue.proofs.Tests.{by-cond}
+use Rattle.word.proofs.Choices.{by-cond}
+use Rattle.word.proofs.Lists.{bytes-take, bytes-drop, length-part}
 use Rattle.registers.specs.Places.{walclk}
+use Rattle.registers.proofs.Files.{File, file-store}
 use Rattle.host.specs.declared.Host.{Host}
 use Rattle.device.specs.declared.Hda.{Hda}
 use Rattle.device.specs.Machines.{Machine, checkOf, answerOf, finishOf}
@@ -19,14 +19,13 @@ use Rattle.parse.proofs.Theorems.{taken-long}
 use Rattle.restore.specs.Restores.{restoredDevice, Restored, acceptedOf, numberOf, restoreStep, restoreOf}
 use Rattle.restore.proofs.Theorems.{number-taken, restored-valid}
 use Rattle.calls.specs.Calls.{withRestored}
-use Rattle.calls.proofs.Registers.{File, file-store}
 use Rattle.calls.proofs.Pci.{update-file}
 use Rattle.calls.proofs.Devices.{Stands, check-stands, stands-check}
 
 module _ (s : List ℕ) (typed : Bytes s) where
   -- a state's 256 bytes of registers
   block-file : 680 ≤ length s → File (blockAt 262 s)
-  block-file long = record { sized = length-take-le 256 (drop 262 s) (omega (arith, length-drop 262 s)); bytes = bytes-take 256 (drop 262 s) (bytes-drop 262 s typed) }
+  block-file long = record { sized = length-part 256 262 s (omega arith); bytes = bytes-take 256 (drop 262 s) (bytes-drop 262 s typed) }
 
   module _ (d : Hda) (h : Host) (l : List ℕ) (q : ℕ) (file : File (d .regs)) where
     accepted-file : numberOf s d h ≡ 0 → File (acceptedOf s d h l .answer .hda .regs)

@@ -1,19 +1,18 @@
 -- A response, the waiting commands and an immediate command keep the register file: they change their own registers, and put bytes there. Assumes nothing.
 use Prim.Native.Nat.{ℕ}
 use mathlib.Core.Path.{_≡_, refl, _∙_}
-use mathlib.Core.Bool.{Bool, true, false, _||_}
+use mathlib.Core.Bool.{Bool, true, false, _||_, and-false}
 use mathlib.Core.List.{List}
 use native.Mathlib.Omega.{arith}
 use lib.Dec.{eqb}
 use Rattle.codec.specs.declared.Codec.{Codec}
-use Rattle.codec.proofs.Choices.{and-false}
 use Rattle.registers.specs.Places.{dmaOf}
+use Rattle.registers.proofs.Files.{File}
 use Rattle.immediate.specs.Immediate.{immediateOf}
 use Rattle.rings.specs.Rings.{Rings, responseOf, commandsOf}
 use Rattle.rings.proofs.Facts.{Outside, response-outside, commands-outside, immediate-outside}
 use Rattle.device.specs.Machines.{Machine, unchanged}
 use Rattle.hda.specs.Calls.{pinStep}
-use Rattle.calls.proofs.Registers.{File}
 
 outside-file : {low high : ℕ} {l k : List ℕ} → Outside low high l k → File l → File k
 outside-file o f = record { sized = o .size ∙ f .sized; bytes = o .range (f .bytes) }

@@ -9,6 +9,7 @@ use lib.Bits.{bitOr, or-lt}
 use lib.Dec.{eqb}
 use lib.ListN.{length}
 use Rattle.word.specs.Place.{wordAt}
+use Rattle.word.proofs.Choices.{by-cond}
 use Rattle.clock.proofs.Theorems.{accrue-bound}
 use Rattle.clock.specs.Frames.{remainderOf}
 use Rattle.format.specs.declared.Format.{Format}
@@ -17,11 +18,10 @@ use Rattle.format.specs.Format.{formatOf}
 use Rattle.codec.specs.declared.Codec.{Codec}
 use Rattle.stream.specs.declared.Stream.{Stream}
 use Rattle.stream.specs.Box.{streams}
-use Rattle.stream.specs.Streams.{validOf}
+use Rattle.stream.specs.Streams.{listSize, validOf}
 use Rattle.stream.specs.Update.{updateOf}
 use Rattle.stream.proofs.Validity.{valid-parts, parts-valid}
 use Rattle.queue.specs.Queues.{capacity, closed, validQueue, latencyOf}
-use Rattle.queue.proofs.Tests.{by-cond}
 use Rattle.queue.proofs.Validity.{queue-bound}
 use Rattle.host.specs.declared.Host.{Host}
 use Rattle.host.specs.declared.Opening.{Opening}
@@ -30,6 +30,7 @@ use Rattle.host.specs.Hosts.{queueAt}
 use Rattle.host.proofs.Validity.{with-queue-valid}
 use Rattle.transfer.proofs.Facts.{transfer-lengths}
 use Rattle.registers.specs.Places.{ctl, sts, lpib, fmt}
+use Rattle.registers.proofs.Files.{File, file-set, file-store, file-keep}
 use Rattle.turn.specs.declared.Setup.{Setup}
 use Rattle.turn.specs.declared.Engine.{Engine}
 use Rattle.turn.specs.Setups.{setupOf}
@@ -40,7 +41,6 @@ use Rattle.turn.proofs.Facts.{frames-few, publish-by}
 use Rattle.turn.proofs.Rounds.{updated-keeps, round-keeps}
 use Rattle.turn.proofs.Turns.{open-queue}
 use Rattle.turn.proofs.Validity.{Sound, sound-kept}
-use Rattle.calls.proofs.Registers.{File, file-set, file-store, file-keep}
 
 -- an engine put back into the registers, where its status is a byte
 abbrev Byte : Engine → Type 0
@@ -78,7 +78,7 @@ module _ (g : Setup) where
       (λ _. stopped-byte (engine (e .running) (e .status) (e .position) (t .transferred .stream) (t .transferred .queue)) h)
 
   -- a list and a part of their sizes, a valid stream and queue, and a status that is a byte: a turn's work keeps them all
-  module _ (size space : ℕ) (long : 34816 ≤ size) (room : capacity ≤ space) where
+  module _ (size space : ℕ) (long : listSize ≤ size) (room : capacity ≤ space) where
     record Working (x : Work) : Type 0 where
       sound : Sound size (x .engine .stream) (x .engine .queue) (x .list)
       part : length (x .part) ≡ space
@@ -130,7 +130,7 @@ module _ (g : Setup) where
 
 -- what a turn leaves
 module _ (regs : List ℕ) (codec : Codec) (h : Host) (microphone : Bool) (i nanos limit : ℕ) (s : Stream) (l part m : List ℕ) (few : i < streams) (file : File regs)
-    (long : 34816 ≤ length l) (room : capacity ≤ length part) (stream : validOf s l ≡ true) (queue : validQueue (queueAt h i) ≡ true) where
+    (long : listSize ≤ length l) (room : capacity ≤ length part) (stream : validOf s l ≡ true) (queue : validQueue (queueAt h i) ≡ true) where
   abbrev Filed : Turn → Type 0
   Filed t = File (t .regs) × (length (t .part) ≡ length part)
 

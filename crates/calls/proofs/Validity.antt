@@ -7,16 +7,17 @@ use mathlib.Core.List.{List, [], _∷_}
 use native.Mathlib.Omega.{arith}
 use lib.ListN.{length}
 use Rattle.stream.specs.Box.{streams}
+use Rattle.stream.specs.Streams.{listSize}
 use Rattle.queue.specs.Queues.{capacity}
 use Rattle.host.specs.declared.Host.{Host}
 use Rattle.host.specs.Hosts as hosts
 use Rattle.driver.proofs.Validity.{feed-valid, pull-valid, playback-valid, capture-valid, downstream-valid}
-use Rattle.device.specs.Devices.{listSize, freshOf}
+use Rattle.registers.proofs.Files.{file-reset}
+use Rattle.device.specs.Devices.{freshOf}
 use Rattle.device.specs.Machines.{Machine, checkMachine}
 use Rattle.device.proofs.Facts.{fresh-passes}
 use Rattle.hda.specs.Calls.{newOf}
 use Rattle.calls.proofs.Driver.{length-feed, length-pull}
-use Rattle.calls.proofs.Registers.{file-reset}
 use Rattle.calls.proofs.Pci.{fresh-word}
 use Rattle.calls.proofs.Devices.{Stands, check-stands, stands-check}
 use Rattle.calls.proofs.Writes.{write-leaves, bar-write-leaves}

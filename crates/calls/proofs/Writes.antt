@@ -7,19 +7,19 @@ use native.Mathlib.Omega.{arith}
 use lib.Dec.{eqb}
 use lib.ListN.{length}
 use Rattle.word.specs.Value.{Bytes}
+use Rattle.word.proofs.Choices.{by-cond}
 use Rattle.stream.specs.Box.{streams}
-use Rattle.queue.proofs.Tests.{by-cond}
+use Rattle.stream.specs.Streams.{listSize}
 use Rattle.registers.specs.Places.{gctl, statests, gsts, byteAt, has}
+use Rattle.registers.proofs.Files.{File, file-store, file-bits, file-keep, file-align}
 use Rattle.bus.specs.Bus.{frontOf}
 use Rattle.bus.proofs.Facts.{responses-fall}
-use Rattle.device.specs.Devices.{listSize}
 use Rattle.device.specs.Machines.{Machine, unchanged, withCommanded, commandedOf}
 use Rattle.device.proofs.Checks.{device-parts}
 use Rattle.settle.specs.declared.Ports.{Ports}
 use Rattle.settle.specs.Settle.{ports}
 use Rattle.write.specs.Writes.{writtenOf, controlledOf, flushed, flushedOf, tailOf, tailedOf, writeStep, writeOf}
 use Rattle.hda.specs.Calls.{barWriteOf}
-use Rattle.calls.proofs.Registers.{File, file-store, file-bits, file-keep, file-align}
 use Rattle.calls.proofs.Bus.{file-bytes}
 use Rattle.calls.proofs.Devices.{Holds, device-changed, with-file, commanded-holds, settle-holds, reset-holds, Stands, Leaves, unchanged-leaves, finished-leaves, checked-leaves, commanded-stands}
 

@@ -5,11 +5,11 @@ use mathlib.Core.List.{List, [], _∷_, _++_}
 use native.Mathlib.Omega.{arith}
 use native.Mathlib.Nat.{add-assoc, add-zero, not-suc-le-zero}
 use native.Mathlib.Numerals.{add-one}
-use lib.ListN.{length, take, drop, getD, length-append, length-drop, take-append-drop, drop-of-length-le}
-use lib.Seq.{take-add, take-take, take-at, drop-cons, drop-drop, length-take-le}
+use lib.ListN.{length, take, drop, getD, length-append, take-append-drop, drop-of-length-le}
+use lib.Seq.{take-add, take-take, take-at, drop-cons, drop-drop}
 use Rattle.word.specs.Value.{Bytes}
 use Rattle.word.specs.Place.{putAt}
-use Rattle.word.proofs.Lists.{bytes-take, bytes-drop, bytes-append}
+use Rattle.word.proofs.Lists.{bytes-take, bytes-drop, bytes-append, length-part}
 use Rattle.word.proofs.Put.{put-same, length-put, bytes-put, put-there, put-join}
 use Rattle.node.specs.declared.Node.{Node}
 use Rattle.codec.specs.declared.Codec.{Codec}
@@ -85,7 +85,7 @@ record-place at l i b = ap (λ (c : Codec). nodeAt c i) (codec-records at l) ∙
 
 record-well-formed : (at : ℕ) (l : List ℕ) → at + 24 ≤ length l → Bytes l → WellFormedNode (recordAt at l)
 record-well-formed at l fits h =
-    record { size = length-take-le 24 (drop at l) (omega (arith, length-drop at l)); range = bytes-take 24 (drop at l) (bytes-drop at l h) }
+    record { size = length-part 24 at l (omega arith); range = bytes-take 24 (drop at l) (bytes-drop at l h) }
 
 pub load-well-formed : (at : ℕ) (l : List ℕ) → at + 144 ≤ length l → Bytes l → WellFormed (codecAt at l)
 load-well-formed at l fits h =

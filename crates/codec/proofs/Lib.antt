@@ -3,4 +3,3 @@ pub mod WellFormed
 pub mod Values
 pub mod Copies
 pub mod Bytes
-pub mod Choices

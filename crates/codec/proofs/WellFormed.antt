@@ -1,13 +1,14 @@
 -- A codec at reset is well formed, and every command leaves a well-formed codec so: six records of 24 bytes. Assumes nothing.
-use Prim.Native.Nat.{ℕ, zero, suc, _+_, _-_, _/_, _%_, _<_, max}
+use Prim.Native.Nat.{ℕ, zero, suc, _+_, _-_, _/_, _%_, _<_}
 use mathlib.Core.Path.{_≡_, refl, _∙_}
-use mathlib.Core.Bool.{Bool, true, false, cond, not, _&&_, _||_}
+use mathlib.Core.Bool.{Bool, true, cond, not, _&&_, _||_}
 use mathlib.Core.List.{List, [], _∷_}
 use native.Mathlib.Omega.{arith}
 use native.Mathlib.Nat.{not-suc-le-zero}
 use lib.Dec.{eqb, leb, ltb}
 use lib.ListN.{length, getD, set, replicate, length-set}
-use Rattle.word.specs.Value.{Bytes}
+use Rattle.word.proofs.Choices.{chosen}
+use Rattle.word.proofs.Lists.{bytes-set, below, bytes-below}
 use Rattle.node.specs.declared.Node.{Node}
 use Rattle.node.specs.declared.Answer.{Answer}
 use Rattle.codec.specs.declared.Codec.{Codec}
@@ -17,25 +18,13 @@ use Rattle.node.specs.Nodes.{put, putIf, putSides, setAmplifierOf, setOf, nodeV
 use Rattle.codec.specs.Codecs.{absent, nodeAt, freshOf, verbOf}
 use Rattle.codec.specs.WellFormed.{WellFormedNode, WellFormed}
 
--- what holds of both choices holds of the one taken
-chosen : {A : Type 0} (P : A → Type 0) (t : Bool) {a b : A} → P a → P b → P (cond t a b)
-chosen P true p q = p
-chosen P false p q = q
-
 either : (t : Bool) {n m : Node} → WellFormedNode n → WellFormedNode m → WellFormedNode (cond t n m)
 either = chosen WellFormedNode
 
 -- ---- a record
-bytes-set : (l : List ℕ) (i v : ℕ) → Bytes l → v < 256 → Bytes (set l i v)
-bytes-set [] i v h b j = h j
-bytes-set (x ∷ l) zero v h b zero = b
-bytes-set (x ∷ l) zero v h b (suc j) = h (suc j)
-bytes-set (x ∷ l) (suc i) v h b zero = h 0
-bytes-set (x ∷ l) (suc i) v h b (suc j) = bytes-set l i v (λ k. h (suc k)) b j
-
 module _ (n : Node) (w : WellFormedNode n) where
   put-kept : (i v : ℕ) → v < 256 → WellFormedNode (put n i v)
-  put-kept i v b = record { size = length-set (n .bytes) i v ∙ w .size; range = bytes-set (n .bytes) i v (w .range) b }
+  put-kept i v b = record { size = length-set (n .bytes) i v ∙ w .size; range = bytes-set (n .bytes) i v b (w .range) }
 
   put-if-kept : (t : Bool) (i v : ℕ) → v < 256 → WellFormedNode (putIf t n i v)
   put-if-kept t i v b = either t (put-kept i v b) w
@@ -95,17 +84,8 @@ stored-kept c i n w f =
     }
 
 -- ---- the codec at reset, by computation
-abbrev largest : List ℕ → ℕ
-largest [] = 0
-largest (x ∷ l) = max x (largest l)
-
-bytes-largest : (l : List ℕ) → largest l < 256 → Bytes l
-bytes-largest [] h i = omega arith
-bytes-largest (x ∷ l) h zero = omega arith
-bytes-largest (x ∷ l) h (suc i) = bytes-largest l (omega arith) i
-
-closed : (n : Node) → length (n .bytes) ≡ 24 → largest (n .bytes) < 256 → WellFormedNode n
-closed n size small = record { size = size; range = bytes-largest (n .bytes) small }
+closed : (n : Node) → length (n .bytes) ≡ 24 → below (n .bytes) ≡ true → WellFormedNode n
+closed n size small = record { size = size; range = bytes-below (n .bytes) small }
 
 abbrev Every : List Node → Type 0
 Every [] = Unit
@@ -119,10 +99,10 @@ every-each (n ∷ l) e (suc i) b = every-each l (e .1) i (omega arith)
 pub fresh-well-formed : WellFormed freshOf
 unfolding freshOf freshNodeOf
 fresh-well-formed =
-    let root = closed (record { bytes = replicate 24 0 }) refl (omega arith) in
-    let plain = closed (freshNodeOf 0 0 0 0) refl (omega arith) in
-    let output = closed (freshNodeOf 0x40 0x10 0x40 0) refl (omega arith) in
-    let input = closed (freshNodeOf 0x20 0x20 0x50 0x80) refl (omega arith) in
+    let root = closed (record { bytes = replicate 24 0 }) refl refl in
+    let plain = closed (freshNodeOf 0 0 0 0) refl refl in
+    let output = closed (freshNodeOf 0x40 0x10 0x40 0) refl refl in
+    let input = closed (freshNodeOf 0x20 0x20 0x50 0x80) refl refl in
     record { count = refl; each = every-each (freshOf .nodes) (root, (plain, (plain, (output, (plain, (input, tt)))))) }
 
 pub verb-well-formed : (c : Codec) (x : ℕ) → WellFormed c → WellFormed (verbOf c x .codec)

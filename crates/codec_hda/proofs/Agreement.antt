@@ -1,11 +1,12 @@
 -- The device does what HDA 1.0a says of its codec, in every state and for every command, but for the named exceptions (specs/Exceptions).
 use Prim.Native.Nat.{ℕ, _*_, _/_, _%_, _<_}
 use mathlib.Core.Path.{_≡_, refl, sym, _∙_}
-use mathlib.Core.Bool.{true, false, cond, _&&_, not}
+use mathlib.Core.Bool.{true, false, cond, _&&_, not, and-false}
 use native.Mathlib.Omega.{arith}
 use borrow.Author.Tests.{eqb-true, eqb-false, leb-true, leb-false, ltb-true, not-true}
 use lib.Dec.{eqb, leb, ltb}
 use lib.Seq.{set-getD}
+use Rattle.word.proofs.Choices.{by-test, both, by-value, by-bit, by-range, below-one, within, outside, choice-same}
 use Rattle.node.specs.declared.Node.{Node}
 use Rattle.codec.specs.declared.Codec.{Codec}
 use Rattle.codec.specs.declared.Outcome.{Outcome}
@@ -17,7 +18,6 @@ use Rattle.codec.specs.Codecs.{nodeAt, stored, outcome, freshOf, verbOf}
 use Rattle.codec_hda.specs.HdaParameters.{declared, inputAmplifier, outputAmplifier, processing, digital}
 use Rattle.codec_hda.specs.HdaVerbs.{isWidget, capable, isConverter, isPin, selects, powers, responds, enables, connectionsOf, hdaSetAmplifierOf, hdaAmplifierOf, unreserved, powerOf, hdaSetOf, hdaGetOf, Hda, hda, keepDefault, hdaResetOf, Ruling, says, hdaNodeOf, hdaVerbOf}
 use Rattle.codec_hda.specs.Exceptions.{None, VerbAbsent, AmplifierAbsent, PowerState, PowerActual, PinReserved, Subsystem, ResetDefaults, unless, setAmplifierException, amplifierException, sameDefault, sameDefaults, longException, nodeException, exceptionOf}
-use Rattle.codec.proofs.Choices.{by-test, by-value, by-bit, by-range, both, and-false, below-one, within, outside, choice-same}
 use Rattle.codec_hda.proofs.Exceptional.{never, passed, has}
 
 -- ---- parameters

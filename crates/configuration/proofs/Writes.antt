@@ -1,16 +1,17 @@
 -- Laws of a byte's write to the configuration, and of the loop that writes bytes. Assumes nothing.
 use Prim.Native.Nat.{ℕ, _+_, _<_, _≤_}
-use mathlib.Core.Path.{_≡_, refl, sym, _∙_}
-use mathlib.Core.Bool.{Bool, true, false, cond, _&&_, _||_, true≢false}
+use mathlib.Core.Path.{_≡_, refl, _∙_}
+use mathlib.Core.Bool.{true}
 use mathlib.Core.List.{List, [], _∷_}
 use native.Mathlib.Omega.{arith}
 use native.Mathlib.Numerals.{add-one}
 use lib.Bits.{bitAnd, bitOr, and-le-r, or-lt}
-use lib.Dec.{leb, ltb, eqb}
+use lib.Dec.{eqb}
 use lib.ListN.{length, drop, getD, set, drop-of-length-le}
 use lib.Seq.{drop-cons}
-use borrow.Author.Tests.{ltb-true, leb-true, eqb-true}
-use Rattle.registers.specs.Reads.{within}
+use borrow.Author.Tests.{eqb-true}
+use Rattle.word.proofs.Choices.{by-either, by-first}
+use Rattle.registers.proofs.Tests.{within-true}
 use Rattle.configuration.specs.Configuration.{replaced, writeByteOf, writeOf}
 
 -- Bytes that can be written stand past the identity, and in the configuration.
@@ -18,31 +19,14 @@ use Rattle.configuration.specs.Configuration.{replaced, writeByteOf, wri
 abbrev Inside : ℕ → Type 0
 Inside a = (4 ≤ a) × (a < 256)
 
-pub both : (s t : Bool) → (s && t) ≡ true → (s ≡ true) × (t ≡ true)
-both true t h = (refl, h)
-both false t h = absurd (true≢false (sym h))
-
-inside-or : (a : ℕ) (s t : Bool) → (s ≡ true → Inside a) → (t ≡ true → Inside a) → (s || t) ≡ true → Inside a
-inside-or a true t f g h = f refl
-inside-or a false t f g h = g h
-
-inside-within : (a from to : ℕ) → 4 ≤ from → to ≤ 256 → within from to a ≡ true → Inside a
-inside-within a from to low high h =
-    let t = both (leb from a) (ltb a to) h in
-    (omega (arith, leb-true from a (t .0)), omega (arith, ltb-true a to (t .1)))
-
 inside-one : (a at : ℕ) → Inside at → eqb a at ≡ true → Inside a
 inside-one a at i h = let e = eqb-true a at h in (omega arith, omega arith)
 
 inside-replaced : (a : ℕ) → replaced a ≡ true → Inside a
-inside-replaced a =
-    inside-or a _ _
-    (inside-or a _ _ (inside-within a _ _ (omega arith) (omega arith)) (inside-one a _ (omega arith, omega arith)))
-    (inside-within a _ _ (omega arith) (omega arith))
-
-choose : (P : List ℕ → Type 0) (t : Bool) {x y : List ℕ} → (t ≡ true → P x) → P y → P (cond t x y)
-choose P true f g = f refl
-choose P false f g = g
+inside-replaced a h =
+    by-either _ _ h
+    (λ g. by-either _ _ g (λ w. let t = within-true 0x10 0x14 a w in (omega arith, omega arith)) (inside-one a 0x3c (omega arith, omega arith)))
+    (λ w. let t = within-true 0x64 0x6e a w in (omega arith, omega arith))
 
 -- what holds of the configuration, and of each with such a byte changed, holds after a byte's write
 pub byte-by : (P : List ℕ → Type 0) (config : List ℕ) (a b : ℕ) → P config → ((v : ℕ) → 4 ≤ a → a < 256 → (b < 256 → v < 256) → P (set config a v))
@@ -51,10 +35,10 @@ unfolding writeByteOf
 byte-by P config a b same changed =
     let change : (v : ℕ) → (b < 256 → v < 256) → Inside a → P (set config a v) = λ v k i. changed v (i .0) (i .1) k in
     let one : (at v : ℕ) → Inside at → (b < 256 → v < 256) → eqb a at ≡ true → P (set config a v) = λ at v i k h. change v k (inside-one a at i h) in
-    choose P (replaced a) (λ h. change b (λ k. k) (inside-replaced a h))
-    (choose P (eqb a 0x04) (one 0x04 (bitAnd b 6) (omega arith, omega arith) (λ k. omega (arith, and-le-r b 6)))
-    (choose P (eqb a 0x05) (one 0x05 (bitAnd b 4) (omega arith, omega arith) (λ k. omega (arith, and-le-r b 4)))
-    (choose P (eqb a 0x62)
+    by-first P (replaced a) (λ h. change b (λ k. k) (inside-replaced a h))
+    (by-first P (eqb a 0x04) (one 0x04 (bitAnd b 6) (omega arith, omega arith) (λ k. omega (arith, and-le-r b 6)))
+    (by-first P (eqb a 0x05) (one 0x05 (bitAnd b 4) (omega arith, omega arith) (λ k. omega (arith, and-le-r b 4)))
+    (by-first P (eqb a 0x62)
     (one 0x62 (bitOr 0x80 (bitAnd b 1)) (omega arith, omega arith) (λ k. or-lt 8 0x80 (bitAnd b 1) (omega arith) (omega (arith, and-le-r b 1)))) same)))
 
 -- no byte past the configuration is written

@@ -1,7 +1,7 @@
 -- What the check before every call says: what a call that passes it may rely on, and the number of each refusal. Assumes nothing.
 use Prim.Native.Nat.{ℕ, _*_, _<_, _≤_}
 use mathlib.Core.Path.{_≡_, refl, _∙_}
-use mathlib.Core.Bool.{Bool, true, false, cond, _&&_, _||_, and-false}
+use mathlib.Core.Bool.{Bool, true, false, cond, _&&_, and-false}
 use mathlib.Core.List.{List}
 use native.Mathlib.Omega.{arith}
 use borrow.Author.Tests.{ltb-true, ltb-false, leb-true, eqb-true, lt-ltb, le-ltb, le-leb, eq-eqb}
@@ -9,19 +9,20 @@ use lib.Dec.{eqb, leb, ltb}
 use lib.ListN.{length}
 use Rattle.word.specs.Place.{wordAt}
 use Rattle.word.specs.Parts.{partOf}
+use Rattle.word.proofs.Choices.{left, right, neither}
 use Rattle.clock.specs.Billionths.{billion}
 use Rattle.stream.specs.Box as box
 use Rattle.stream.specs.Streams as stream
+use Rattle.stream.specs.Streams.{listSize}
 use Rattle.stream.proofs.Validity.{valid-parts}
 use Rattle.host.specs.declared.Host.{Host}
 use Rattle.queue.specs.Queues.{capacity, validQueue}
 use Rattle.host.specs.Hosts as hosts
-use Rattle.queue.proofs.Tests.{left, right}
 use Rattle.queue.proofs.Validity.{queue-bound}
 use Rattle.host.proofs.Checks.{valid-queue}
 use Rattle.configuration.specs.Configuration.{identity}
 use Rattle.device.specs.declared.Hda.{Hda}
-use Rattle.device.specs.Devices.{listSize, streamAt, streamValid, validOf}
+use Rattle.device.specs.Devices.{streamAt, streamValid, validOf}
 use Rattle.device.specs.Machines.{shortOf, checkOf}
 use Rattle.device.proofs.Scan.{scan-each, scan-all}
 
@@ -60,13 +61,9 @@ module _ (d : Hda) (l : List ℕ) where
 
 -- lent space that is not short has room for every stream
 pub room : (l q : ℕ) → shortOf l q ≡ false → (listSize * box.streams ≤ l) × (capacity * box.streams ≤ q)
-room l q e = go (ltb l (listSize * box.streams)) (ltb q (capacity * box.streams)) refl refl e
-  where
-    go : (a b : Bool) → ltb l (listSize * box.streams) ≡ a → ltb q (capacity * box.streams) ≡ b → (a || b) ≡ false
-        → (listSize * box.streams ≤ l) × (capacity * box.streams ≤ q)
-    go true b ea eb z = absurd (let w : _≡_ {A = ℕ} 0 1 = cc in omega arith)
-    go false true ea eb z = absurd (let w : _≡_ {A = ℕ} 0 1 = cc in omega arith)
-    go false false ea eb z = (ltb-false l (listSize * box.streams) ea, ltb-false q (capacity * box.streams) eb)
+room l q e =
+    let n = neither (ltb l (listSize * box.streams)) (ltb q (capacity * box.streams)) e in
+    (ltb-false l (listSize * box.streams) (n .0), ltb-false q (capacity * box.streams) (n .1))
 
 -- what a call that passes the check may rely on
 pub record Passed (d : Hda) (h : Host) (l : List ℕ) (q : ℕ) : Type 0 where

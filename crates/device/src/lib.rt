@@ -12,8 +12,9 @@ ghost use mathlib.Core.Path.{_≡_};
 ghost use Prim.Native.Nat.{_*_, _≤_};
 ghost use lib.ListN.{length};
 ghost use Rattle.stream.specs.Box.{streams};
+ghost use Rattle.stream.specs.Streams.{listSize};
 ghost use Rattle.pci.specs.declared.Msi.the-variants.{None};
-ghost use Rattle.device.specs.Devices.{listSize, freshOf, streamsValid, validOf};
+ghost use Rattle.device.specs.Devices.{freshOf, streamsValid, validOf};
 ghost use Rattle.device.specs.Machines.{shortOf, checkOf, answerOf, finishOf, commanded, commandedOf};
 
 // The device. Its positions and the bytes of its queues stand in lent space.

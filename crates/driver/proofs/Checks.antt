@@ -6,9 +6,9 @@ use mathlib.Core.Bool.{Bool, true, false, cond}
 use native.Mathlib.Omega.{arith}
 use borrow.Author.Tests.{eqb-true, eqb-false}
 use lib.Dec.{eqb}
-use lib.ListN.{length, drop, length-drop}
-use lib.Seq.{length-take-le}
+use lib.ListN.{length}
 use Rattle.word.specs.Parts.{partOf}
+use Rattle.word.proofs.Lists.{length-part}
 use Rattle.stream.specs.Box.{streams}
 use Rattle.queue.specs.Queues.{capacity}
 use Rattle.queue.proofs.Validity.{queue-bound}
@@ -39,5 +39,5 @@ module _ (h : Host) (space : List ℕ) (n : ℕ) (e : frameCheckOf h (length spa
   frames-ready i b =
       let room = frames-room in
       let valid = checked h (length space) (frames-checked h (length space) n e .passed) .valid in
-      let part = length-take-le capacity (drop (capacity * i) space) (omega (arith, length-drop (capacity * i) space)) in
+      let part = length-part capacity (capacity * i) space (omega arith) in
       (queue-bound (queueAt h i) (valid-queue h valid i), omega arith)

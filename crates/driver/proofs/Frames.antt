@@ -6,9 +6,10 @@ use mathlib.Core.List.{List, _++_}
 use mathlib.Core.Logic.{_⊎_, ⊎-elim}
 use native.Mathlib.Omega.{arith}
 use borrow.Author.Tests.{eq-eqb}
-use lib.ListN.{length, take, drop, length-drop}
-use lib.Seq.{length-take-le, getD-set-same, getD-set-other}
+use lib.ListN.{length, take, drop}
+use lib.Seq.{getD-set-same, getD-set-other}
 use Rattle.word.specs.Parts.{partOf, withPart}
+use Rattle.word.proofs.Lists.{length-part}
 use Rattle.word.proofs.Parts.{part-same, part-other}
 use Rattle.stream.specs.Box.{streams}
 use Rattle.queue.specs.declared.Queue.{Queue}
@@ -39,7 +40,7 @@ module _ (h : Host) (space frames : List ℕ) (sized : length (h .queues) ≡ st
     part-size : length (partOf capacity i space) ≡ capacity
     part-size =
         let room = frames-room h space (length frames) passed in
-        length-take-le capacity (drop (capacity * i) space) (omega (arith, length-drop (capacity * i) space))
+        length-part capacity (capacity * i) space (omega arith)
 
   abbrev put : Moved
   put = putOf (queueAt h captureStream) (partOf capacity captureStream space) frames (length frames)

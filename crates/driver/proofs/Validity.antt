@@ -7,8 +7,8 @@ use borrow.Author.Tests.{eqb-true}
 use lib.ListN.{length}
 use lib.Dec.{eqb}
 use Rattle.word.specs.Parts.{partOf}
+use Rattle.word.proofs.Choices.{right, by-cond}
 use Rattle.queue.specs.Queues.{capacity, takeIntoOf}
-use Rattle.queue.proofs.Tests.{right, by-cond}
 use Rattle.queue.proofs.Validity.{put-valid, take-valid}
 use Rattle.host.specs.declared.Host.{Host}
 use Rattle.host.specs.Hosts.{host, queueAt, validDownstream, validOf, checkOf}

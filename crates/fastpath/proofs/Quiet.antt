@@ -6,9 +6,9 @@ use mathlib.Core.List.{List}
 use native.Mathlib.Omega.{arith}
 use borrow.Author.Tests.{not-true}
 use lib.Seq.{set-getD}
+use Rattle.word.proofs.Choices.{left, right}
 use Rattle.word.proofs.Each.{each-keeps}
 use Rattle.stream.specs.Box.{streams}
-use Rattle.queue.proofs.Tests.{left, right}
 use Rattle.registers.specs.Places.{gctl, ctl, byteAt, has}
 use Rattle.control.specs.Channels.{settledOf}
 use Rattle.settle.specs.declared.Ports.{Ports}

@@ -6,7 +6,7 @@ use mathlib.Core.List.{List}
 use mathlib.Core.Logic.{⊎-elim}
 use native.Mathlib.Omega.{arith}
 use native.Mathlib.Nat.{eq-or-lt-of-le}
-use Rattle.queue.proofs.Tests.{left, right}
+use Rattle.word.proofs.Choices.{left, right}
 use Rattle.registers.specs.Places.{ctl, byteAt}
 use Rattle.fastpath.specs.Quick.{staysOf, stayFrom}
 

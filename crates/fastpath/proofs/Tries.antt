@@ -5,7 +5,7 @@ use mathlib.Core.Bool.{Bool, true, false, cond, true≢false, _&&_}
 use mathlib.Core.List.{List}
 use lib.Dec.{eqb, ltb}
 use lib.ListN.{length}
-use Rattle.queue.proofs.Tests.{left, right, by-cond}
+use Rattle.word.proofs.Choices.{left, right, by-cond}
 use Rattle.bus.specs.Bus.{plainWrite}
 use Rattle.device.specs.Machines.{Machine, Done, checkMachine, answerOf, finishOf}
 use Rattle.settle.specs.Settle.{ports}

@@ -7,17 +7,23 @@ use Prim.Native.Nat.{ℕ, _+_, _*_, _%_, _<_, _≤_}
 use native.Mathlib.Nat.{mul-le-mul}
 use native.Mathlib.Numerals.{add-one}
 use native.Mathlib.Omega.{arith}
-use lib.Dec.{eqb, ltb, lit≤, eqb→eq, eqb·suc-suc}
+use lib.Dec.{T, eqb, ltb, lit≤, eqb→eq, eqb·suc-suc}
 use lib.ListN.{length, getD}
 use borrow.Author.Tests.{ltb-true, eqb-true}
+use Rattle.word.proofs.Choices.{left, right}
 use Rattle.format.specs.declared.Format.{Format}
 use Rattle.format.specs.declared.Format.the-variants.{Unsupported}
 use Rattle.format.specs.Hda.{Pcm, pcmOf, typeField, baseField, multField, divField, reservedField, bitsField, chanField, baseRate, multipliers, sampleBits}
 use Rattle.format.specs.Format.{ratedOf, restricted, formatOf}
-use Rattle.format.proofs.Bools.{and-left, and-right, beq→eq}
 use Rattle.format.proofs.Computed.{below}
 
 -- ---- the codes
+
+beq→eq : (a b : Bool) → T (Bool·beq a b) → a ≡ b
+beq→eq true true t = refl
+beq→eq true false t = absurd t
+beq→eq false true t = absurd t
+beq→eq false false t = refl
 
 -- BITS is 16 at code 1 alone: a test of its eight codes
 sixteen : (code : ℕ) → code < 8 → (ltb code (length sampleBits) && eqb (getD sampleBits code 0) 16) ≡ eqb code 1
@@ -88,9 +94,9 @@ record Ends (r b c : Bool) : Type 0 where
 ends : (t r m b c : Bool) → (t && r && m && b && c) ≡ true → Ends r b c
 ends true r m b c h =
     record {
-      reserved = and-left r m (and-left (r && m) b (and-left (r && m && b) c h));
-      bits = and-right (r && m) b (and-left (r && m && b) c h);
-      chan = and-right (r && m && b) c h;
+      reserved = left r m (left (r && m) b (left (r && m && b) c h));
+      bits = right (r && m) b (left (r && m && b) c h);
+      chan = right (r && m && b) c h;
     }
 ends false r m b c h = absurd (true≢false (sym h))
 

@@ -1,4 +1,3 @@
-pub mod Bools
 pub mod Computed
 pub mod Laws
 pub mod Theorems

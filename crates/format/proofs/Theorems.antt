@@ -1,20 +1,21 @@
 -- Which words are accepted, for all 65,536 of them, and what is known of an accepted rate.
 -- Assumes nothing.
 use mathlib.Core.Path.{_≡_, refl, sym, ap, _∙_, subst}
-use mathlib.Core.Bool.{Bool, true, false, cond, _&&_, true≢false}
+use mathlib.Core.Bool.{Bool, true, false, cond, _&&_, true≢false, not-eq-not}
 use mathlib.Core.List.{List, [], _∷_}
 use mathlib.Core.Option.{Option, none, some}
 use Prim.Native.Nat.{ℕ, _+_, _*_, _/_, _%_, _≤_, _<_}
 use native.Mathlib.Omega.{arith}
 use lib.Dec.{T, eqb, leb, ltb, lit<, eqb→eq, leb→le, ltb→lt}
+use lib.Ieee.Fits.{and-l, and-r}
 use borrow.Author.Tests.{eqb-true, eqb-false, ne-eqb}
+use Rattle.word.proofs.Choices.{by-test, by-either}
 use Rattle.format.specs.declared.Format.{Format}
 use Rattle.format.specs.declared.Format.the-variants.{Unsupported, Rate}
 use Rattle.format.specs.Hda.{Pcm, pcmOf}
 use Rattle.format.specs.Format.{rates, among, stereo16, ratedOf, restricted, formatOf}
 use Rattle.format.specs.Accepted.{acceptedWords, listed}
-use Rattle.format.proofs.Bools.{cases, or-cases, not-so}
-use Rattle.format.proofs.Computed.{both, both-left, both-right, every, below}
+use Rattle.format.proofs.Computed.{every, below}
 use Rattle.format.proofs.Laws.{refused, low-byte}
 
 -- ---- formats compared by computation
@@ -42,20 +43,20 @@ ending h l = same→eq _ _ (below (λ h. same (formatOf (h * 256 + 0x11)) (liste
 not-listed : (w : ℕ) (es : List (ℕ × ℕ)) → T (every (λ e. eqb (e .0 % 256) 0x11) es) → (w % 256 ≡ 0x11 → ⊥) → Unsupported ≡ listed w es
 not-listed w [] t n = refl
 not-listed w (e ∷ es) t n =
-    let end = eqb→eq _ _ (both-left (eqb (e .0 % 256) 0x11) _ t) in
+    let end = eqb→eq _ _ (and-l (eqb (e .0 % 256) 0x11) _ t) in
     rw (ne-eqb w (e .0) (λ h. n (ap (λ (v : ℕ). v % 256) h ∙ end)))
-    (not-listed w es (both-right (eqb (e .0 % 256) 0x11) _ t) n)
+    (not-listed w es (and-r (eqb (e .0 % 256) 0x11) _ t) n)
 
 -- document 01's table is the whole of what is accepted, and every other word is refused
 pub accepted : (w : ℕ) → w < 65536 → formatOf w ≡ listed w acceptedWords
 accepted w l =
-    cases (eqb (w % 256) 0x11)
+    by-test (eqb (w % 256) 0x11)
     (λ e.
     let whole : w / 256 * 256 + 0x11 ≡ w = omega (arith, eqb-true (w % 256) 0x11 e) in
     subst (λ (v : ℕ). formatOf v ≡ listed v acceptedWords) whole (ending (w / 256) (omega arith)))
     (λ e.
     let other = eqb-false (w % 256) 0x11 e in
-    sym (refused w (not-so _ (λ h. other (low-byte w h)))) ∙ not-listed w acceptedWords tt other)
+    sym (refused w (not-eq-not {b = false} .0 (λ h. other (low-byte w h)))) ∙ not-listed w acceptedWords tt other)
 
 -- document 01, Worked by hand: 88,200 frames a second; a reserved multiplier; mono; not PCM
 pub refused-words : (formatOf 0x4811 ≡ Unsupported) × (formatOf 0x2011 ≡ Unsupported) × (formatOf 0x0010 ≡ Unsupported) × (formatOf 0x8011 ≡ Unsupported)
@@ -68,9 +69,9 @@ module _ (p : ℕ → Bool) where
   on-list : (x : ℕ) (ys : List ℕ) → T (every p ys) → among x ys ≡ true → T (p x)
   on-list x [] t h = absurd (true≢false (sym h))
   on-list x (y ∷ ys) t h =
-      or-cases (eqb x y) (among x ys) h
-      (λ e. rw (eqb-true x y e) (both-left (p y) (every p ys) t))
-      (λ m. on-list x ys (both-right (p y) (every p ys) t) m)
+      by-either (eqb x y) (among x ys) h
+      (λ e. rw (eqb-true x y e) (and-l (p y) (every p ys) t))
+      (λ m. on-list x ys (and-r (p y) (every p ys) t) m)
 
   abbrev holds : Format → Bool
   holds Unsupported = true
@@ -98,5 +99,5 @@ module _ (p : ℕ → Bool) where
 -- an accepted rate is positive, and at most 96,000 frames a second
 pub rate-bound : (w r : ℕ) → formatOf w ≡ Rate r → (0 < r) × (r ≤ 96_000)
 rate-bound w r e =
-    let t = every-rate (λ r. both (ltb 0 r) (leb r 96_000)) tt w r e in
-    (ltb→lt 0 r (both-left (ltb 0 r) (leb r 96_000) t), leb→le r 96_000 (both-right (ltb 0 r) (leb r 96_000) t))
+    let t = every-rate (λ r. ltb 0 r && leb r 96_000) tt w r e in
+    (ltb→lt 0 r (and-l (ltb 0 r) (leb r 96_000) t), leb→le r 96_000 (and-r (ltb 0 r) (leb r 96_000) t))

@@ -1,13 +1,14 @@
 -- Writes by base address, configuration writes, pin changes and the pause. Assumes nothing.
 use Prim.Native.Nat.{ℕ, _+_, _*_, _%_, _^_, _≤_, _<_}
-use mathlib.Core.Path.{_≡_, refl, sym}
-use mathlib.Core.Bool.{Bool, true, false, _&&_, _||_, true≢false}
+use mathlib.Core.Path.{_≡_}
+use mathlib.Core.Bool.{Bool, true, false}
 use mathlib.Core.Logic.{_≢_}
 use mathlib.Core.List.{List}
 use native.Mathlib.Omega.{arith}
 use borrow.Author.Tests.{lt-ltb, le-ltb, eq-eqb, ne-eqb, eqb-true}
 use lib.Bits.{bitAnd}
 use lib.Dec.{eqb}
+use Rattle.word.proofs.Choices.{by-either, left}
 use Rattle.rings.specs.declared.Link.{Link}
 use Rattle.rings.specs.Rings.{ringsOf, responseOf}
 use Rattle.pci.specs.declared.Msi.the-variants.{None}
@@ -56,14 +57,9 @@ module _ (d : Hda) (memory : List ℕ) (node : ℕ) where
   responded control regs link m on ec er = rw (ne-eqb (bitAnd (pinControl d node) 0x80) 0 on, ← ec, ← er)
 
 -- only pins 3 and 5 listen, which are nodes of the codec
-pins : (a b : Bool) (node : ℕ) → (a ≡ true → node < 6) → (b ≡ true → node < 6) → (t : Bool) → ((a || b) && t) ≡ true → node < 6
-pins true b node f g t e = f refl
-pins false true node f g t e = g refl
-pins false false node f g t e = absurd (true≢false (sym e))
-
 pub listening-node : (d : Hda) (node : ℕ) → listens d node ≡ true → node < 6
 listening-node d node e =
-    pins (eqb node 3) (eqb node 5) node (λ t. omega (arith, eqb-true node 3 t)) (λ t. omega (arith, eqb-true node 5 t)) _ e
+    by-either (eqb node 3) (eqb node 5) (left _ _ e) (λ t. omega (arith, eqb-true node 3 t)) (λ t. omega (arith, eqb-true node 5 t))
 
 -- no one listens, or the pin's response goes out
 module _ (node : ℕ) (x : Machine) where

@@ -8,7 +8,7 @@ use native.Mathlib.Omega.{arith}
 use native.Mathlib.Nat.{eq-or-lt-of-le}
 use borrow.Author.Tests.{le-leb, lt-leb}
 use lib.ListN.{getD}
-use Rattle.queue.proofs.Tests.{left, right}
+use Rattle.word.proofs.Choices.{left, right}
 use Rattle.record.specs.Loads.{isFlagAt}
 use Rattle.host_record.specs.Hosts.{queuePlace, queuesFlagged}
 

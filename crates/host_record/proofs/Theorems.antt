@@ -10,10 +10,10 @@ use lib.Dec.{eqb}
 use lib.ListN.{length, drop, drop-of-length-le}
 use Rattle.word.specs.Value.{Bytes}
 use Rattle.word.specs.Place.{wordAt}
+use Rattle.word.proofs.Choices.{left, right}
 use Rattle.stream.specs.Box.{streams}
 use Rattle.queue.specs.declared.Queue.{Queue}
 use Rattle.queue.specs.Queues.{closed}
-use Rattle.queue.proofs.Tests.{left, right}
 use Rattle.host.specs.declared.Host.{Host}
 use Rattle.host.specs.Hosts as hosts
 use Rattle.record.specs.Devices.{flag}

@@ -1,14 +1,15 @@
 -- What the definitions of guest memory say, and what a copy out of memory or into it comes to. Assumes nothing.
 use Prim.Native.Nat.{ℕ, _+_, _-_, _%_, _≤_, _<_}
 use mathlib.Core.Path.{_≡_, refl, sym, ap, _∙_}
-use mathlib.Core.List.{List, _++_, append-nil}
+use mathlib.Core.List.{List, _++_}
 use mathlib.Core.Bool.{Bool, true, false, cond}
 use mathlib.Core.Logic.{_⊎_}
 use native.Mathlib.Omega.{arith}
 use borrow.Author.Tests.{leb-true, leb-false, le-leb, lt-leb}
-use lib.ListN.{length, take, drop, getD, length-drop, drop-of-length-le}
-use lib.Seq.{take-length, drop-drop, length-take-le}
+use lib.ListN.{length, take, drop, getD}
+use lib.Seq.{drop-drop}
 use Rattle.word.specs.Place.{putAt}
+use Rattle.word.proofs.Lists.{length-part, part-count, copied-whole}
 use Rattle.word.proofs.Put.{length-put, put-there, put-part-elsewhere, put-byte-elsewhere}
 use Rattle.word.proofs.Place.{word-join, word-byte}
 use Rattle.memory.specs.declared.Fetched.the-variants.{Outside, Entry}
@@ -47,27 +48,14 @@ module _ (m : List ℕ) (address : ℕ) where
   flags-byte h =
       omega (arith, word-join 1 (address + 12) m (omega arith) 3, word-byte (address + 12) m (omega arith))
 
--- a copy of all of `from` leaves the first bytes of `into`; here both are as long, so it leaves `from`
-whole : (from into l : List ℕ) → length into ≤ length from → l ≡ take (length from) from ++ drop (length from) into → l ≡ from
-whole from into l h e = e ∙ rw (take-length from, drop-of-length-le into h, append-nil)
-
--- the bytes from `address` to `address + n`, as the code computes their count
-part : (m : List ℕ) (address n : ℕ) → take (address + n - address) (drop address m) ≡ take n (drop address m)
-part m address n =
-    let e : address + n - address ≡ n = omega arith in
-    ap (λ (k : ℕ). take k (drop address m)) e
-
 module _ (m : List ℕ) (address : ℕ) (bs : List ℕ) (fits : address + length bs ≤ length m) where
-  length-part : length (take (length bs) (drop address m)) ≡ length bs
-  length-part = length-take-le (length bs) (drop address m) (omega (arith, length-drop address m))
-
   -- a part of memory copied over all of `bs`
   pub copied-out : (l p : List ℕ) → p ≡ take (address + length bs - address) (drop address m)
       → l ≡ take (length p) p ++ drop (length p) bs → accessOf true l ≡ readOf m address bs
   copied-out l p ep e =
-      let is : p ≡ take (length bs) (drop address m) = ep ∙ part m address (length bs) in
-      let short : length bs ≤ length p = omega (arith, ap length is, length-part) in
-      ap (accessOf true) (whole p bs l short e ∙ is) ∙ sym (read-inside m address bs fits)
+      let is : p ≡ take (length bs) (drop address m) = ep ∙ part-count (length bs) address m in
+      let short : length bs ≤ length p = omega (arith, ap length is, length-part (length bs) address m fits) in
+      ap (accessOf true) (copied-whole p bs l short e ∙ is) ∙ sym (read-inside m address bs fits)
 
   -- all of `bs` copied over a part of memory
   pub copied-in : (l : List ℕ) → l ≡ take (length bs) bs ++ drop (length bs) (take (address + length bs - address) (drop address m))
@@ -75,9 +63,9 @@ module _ (m : List ℕ) (address : ℕ) (bs : List ℕ) (fits : address + length
   unfolding putAt
   copied-in l e =
       let p : List ℕ = take (address + length bs - address) (drop address m) in
-      let short : length p ≤ length bs = omega (arith, ap length (part m address (length bs)), length-part) in
+      let short : length p ≤ length bs = omega (arith, ap length (part-count (length bs) address m), length-part (length bs) address m fits) in
       let k : address + (address + length bs - address) ≡ address + length bs = omega arith in
-      rw (whole bs p l short e, drop-drop (address + length bs - address) address m, k) (sym (write-inside m address bs fits))
+      rw (copied-whole bs p l short e, drop-drop (address + length bs - address) address m, k) (sym (write-inside m address bs fits))
 
 -- what holds of both outcomes of a write holds of it
 pub write-cases : (m : List ℕ) (address : ℕ) (bs : List ℕ) (P : Access → Type 0)

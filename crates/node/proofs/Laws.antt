@@ -6,6 +6,7 @@ use mathlib.Core.List.{List, [], _∷_}
 use native.Mathlib.Omega.{arith}
 use borrow.Author.Tests.{ne-eqb, eqb-true}
 use lib.Dec.{eqb, leb, ltb}
+use Rattle.word.proofs.Choices.{by-either}
 use Rattle.node.specs.declared.Node.{Node}
 use Rattle.node.specs.Parameters.{Row, look}
 use Rattle.node.specs.Nodes.{put, setOf}
@@ -24,14 +25,10 @@ abbrev pub among : ℕ → List ℕ → Bool
 among k [] = false
 among k (j ∷ js) = eqb k j || among k js
 
-or-cases : {P : Type 0} (a b : Bool) → (a || b) ≡ true → (a ≡ true → P) → (b ≡ true → P) → P
-or-cases true b t p q = p refl
-or-cases false b t p q = q t
-
 missed-from : (known : Type 0) (ks : List ℕ) (x : ℕ) → Missed known ks x → (k : ℕ) → among k ks ≡ true → eqb x k ≡ false
 missed-from known [] x m k t = cc
 missed-from known (j ∷ js) x m k t =
-    or-cases (eqb k j) (among k js) t
+    by-either (eqb k j) (among k js) t
     (λ e. ne-eqb x k (λ p. missed-known (known × (x ≡ j → ⊥)) js x m .1 (p ∙ eqb-true k j e)))
     (λ e. missed-from (known × (x ≡ j → ⊥)) js x m k e)
 

@@ -1,20 +1,13 @@
--- Choices: what a test that came out one way makes of them, and what a choice that gives 0 tells. Numbers are refusals, and 0 is none. Assumes nothing.
+-- Choices of numbers: what a test that came out one way makes of them, and what a choice that gives 0 tells. Numbers are refusals, and 0 is none. Assumes
+-- nothing.
 use Prim.Native.Nat.{ℕ, _<_}
 use mathlib.Core.Path.{_≡_, ap, _∙_}
 use mathlib.Core.Bool.{Bool, true, false, cond}
 use native.Mathlib.Omega.{arith}
 use borrow.Author.Tests.{eqb-true, eqb-false, eq-eqb, ne-eqb}
 use lib.Dec.{eqb}
+use Rattle.word.proofs.Choices.{by-cond}
 use Rattle.format.specs.Format.{formatOf, numberOf}
-use Rattle.queue.proofs.Tests.{by-cond}
-
--- the code's test `t` came out, and is the definition's `b`
-module _ {A : Type 0} (x y : A) {t b : Bool} where
-  pub chosen : t ≡ true → t ≡ b → x ≡ cond b x y
-  chosen h e = rw (← e, h)
-
-  pub other : t ≡ false → t ≡ b → y ≡ cond b x y
-  other h e = rw (← e, h)
 
 -- one test of a number after the other: the first number that is not 0 stands
 module _ {x number : ℕ} (e : number ≡ x) where

@@ -5,7 +5,7 @@ use borrow.Author.Tests.{leb-true}
 use lib.ListN.{length}
 use lib.Dec.{leb}
 use Rattle.word.specs.Place.{wordAt}
-use Rattle.queue.proofs.Tests.{by-cond}
+use Rattle.word.proofs.Choices.{by-cond}
 use Rattle.reader.specs.declared.Took.{Took}
 use Rattle.reader.specs.Fields.{fieldOf, runOf, thenOf}
 

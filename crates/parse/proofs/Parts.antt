@@ -1,7 +1,7 @@
 -- A stream's part of a state: what the code's tests make of it, what a stream that is taken tells, and the loop over the streams. Assumes nothing.
 use Prim.Native.Nat.{ℕ, zero, suc, _+_, _-_, _*_, _/_, _≤_, _<_}
 use mathlib.Core.Path.{_≡_, refl, sym, ap, subst, _∙_}
-use mathlib.Core.Bool.{Bool, true, false, cond, not, _&&_}
+use mathlib.Core.Bool.{Bool, true, false, cond, _&&_, Bool·not-not}
 use mathlib.Core.List.{List}
 use native.Mathlib.Omega.{arith}
 use native.Mathlib.Numerals.{add-one}
@@ -12,6 +12,7 @@ use lib.Seq.{take-all}
 use lib.Dec.{eqb, lit<}
 use Rattle.word.specs.Place.{wordAt}
 use Rattle.word.specs.Each.{eachOf, further}
+use Rattle.word.proofs.Choices.{if-true, if-false}
 use Rattle.word.proofs.Each.{each-step, each-stop}
 use Rattle.format.specs.Format.{formatOf, numberOf}
 use Rattle.positions.specs.Positions.{positionsOf, risesOf}
@@ -22,12 +23,8 @@ use Rattle.record.specs.Layout.{numbersSize}
 use Rattle.record.specs.Loads.{streamAt}
 use Rattle.parse.specs.declared.Step.{Step}
 use Rattle.parse.specs.States.{listNumber, formatNumber, countsNumber, streamNumber, stepOut, steppedOf, stepAt, goesOn, placeOf}
-use Rattle.parse.proofs.Choices.{chosen, other, both-pass, holds, fails}
+use Rattle.parse.proofs.Choices.{both-pass, holds, fails}
 use Rattle.parse.proofs.Fields.{run-cases}
-
-not-not : (b : Bool) → not (not b) ≡ b
-not-not true = refl
-not-not false = refl
 
 -- a list whose count is within both limits: its order decides. The code reads it in the part of the state from `at` to the end
 module _ (s : List ℕ) (t : Stream) (at : ℕ) (few : t .pending ≤ places) (room : t .pending ≤ (length s - at) / 8) {rises : Bool}
@@ -43,10 +40,10 @@ module _ (s : List ℕ) (t : Stream) (at : ℕ) (few : t .pending ≤ places) (r
       )
 
   pub list-ordered : rises ≡ true → 0 ≡ listNumber s t at
-  list-ordered h = chosen 0 7 h refl ∙ list-same
+  list-ordered h = if-true 0 7 h refl ∙ list-same
 
   pub list-unordered : rises ≡ false → 7 ≡ listNumber s t at
-  list-unordered h = other 0 7 h refl ∙ list-same
+  list-unordered h = if-false 0 7 h refl ∙ list-same
 
 -- the format register, read where the code computes its place
 module _ (s : List ℕ) (i base : ℕ) {raw : ℕ} (place : base ≡ 390 + 32 * i) (e : raw ≡ wordAt 2 (base + 18) s) where
@@ -58,13 +55,13 @@ module _ (s : List ℕ) (i base : ℕ) {raw : ℕ} (place : base ≡ 390 + 32 * 
   format-same =
       let word : 262 + fmt i ≡ base + 18 = omega (arith, place) in
       let control : 262 + ctl i ≡ base = omega (arith, place) in
-      rw (word, control, ← e, not-not)
+      rw (word, control, ← e, Bool·not-not)
 
   pub format-idle : idle ≡ true → 0 ≡ formatNumber s i
-  format-idle h = chosen 0 (numberOf (formatOf raw)) h refl ∙ format-same
+  format-idle h = if-true 0 (numberOf (formatOf raw)) h refl ∙ format-same
 
   pub format-set : idle ≡ false → {number : ℕ} → number ≡ numberOf (formatOf raw) → number ≡ formatNumber s i
-  format-set h d = d ∙ other 0 (numberOf (formatOf raw)) h refl ∙ format-same
+  format-set h d = d ∙ if-false 0 (numberOf (formatOf raw)) h refl ∙ format-same
 
 -- what the number of a stream with record `t` makes of its step
 module _ (s : List ℕ) (i at next : ℕ) {t : Stream} {number : ℕ} (loaded : t ≡ streamAt at s) (e : number ≡ streamNumber s t next i) where

@@ -9,6 +9,7 @@ use lib.ListN.{length, drop}
 use lib.Dec.{eqb, leb, ltb}
 use Rattle.word.specs.Place.{wordAt}
 use Rattle.word.specs.Each.{eachOf, further}
+use Rattle.word.proofs.Choices.{both, chosen}
 use Rattle.clock.specs.Billionths.{billion}
 use Rattle.format.specs.declared.Format.{Format}
 use Rattle.format.specs.declared.Format.the-variants.{Unsupported, Rate}
@@ -17,9 +18,7 @@ use Rattle.positions.specs.Positions.{positionsOf, risesOf}
 use Rattle.stream.specs.Streams.{places, validOf}
 use Rattle.stream.specs.Box.{streams}
 use Rattle.stream.specs.declared.Stream.{Stream}
-use Rattle.queue.proofs.Tests.{by-cond}
 use Rattle.registers.specs.Places.{ctl, fmt, byteAt, has}
-use Rattle.registers.proofs.Tests.{both}
 use Rattle.record.specs.Layout.{headSize, numbersSize}
 use Rattle.record.specs.Devices.{flag}
 use Rattle.record.specs.Loads.{markedOf, streamAt}
@@ -114,7 +113,7 @@ pub data Returned : ℕ → Type 0 where
 
 -- what a test chooses, and the first of two numbers that is not 0
 either : (b : Bool) {x y : ℕ} → Returned x → Returned y → Returned (cond b x y)
-either b {x} {y} p q = by-cond Returned b x y (λ e. p) (λ e. q)
+either = chosen Returned
 
 first : {x rest : ℕ} → Returned x → Returned rest → Returned (cond (eqb x 0) rest x)
 first {x} p q = either (eqb x 0) q p

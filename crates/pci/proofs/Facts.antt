@@ -1,5 +1,5 @@
 -- What writes and updates keep: lengths, bytes, the identity and the level; and when a message is sent. Assumes nothing.
-use Prim.Native.Nat.{ℕ, zero, suc, _+_, _^_, _≤_, _<_}
+use Prim.Native.Nat.{ℕ, suc, _+_, _^_, _≤_, _<_}
 use mathlib.Core.Path.{_≡_, refl, ap, _∙_}
 use mathlib.Core.Bool.{Bool, true, false, cond, not, _&&_, and-not-self}
 use mathlib.Core.List.{List, [], _∷_}
@@ -8,12 +8,11 @@ use native.Mathlib.Omega.{arith}
 use lib.ListN.{length, take, set, length-set}
 use lib.Seq.{take-set-le, getD-set-other}
 use lib.Bits.{bitAnd, bitOr, and-le-r, or-lt}
-use lib.Dec.{ltb}
-use borrow.Author.Tests.{ltb-true}
 use Rattle.word.specs.Value.{bytesOf, Bytes}
 use Rattle.word.specs.Place.{wordAt, storeAt}
 use Rattle.word.specs.Each.{eachOf, always}
-use Rattle.word.proofs.Lists.{bytes-set}
+use Rattle.word.proofs.Choices.{cond-map}
+use Rattle.word.proofs.Lists.{bytes-set, bytes-below}
 use Rattle.word.proofs.Each.{each-same}
 use Rattle.word.proofs.Place.{length-store, bytes-store, word-elsewhere, byte-elsewhere}
 use Rattle.stream.specs.Box.{streams}
@@ -22,7 +21,7 @@ use Rattle.pci.specs.declared.Msi.{Msi}
 use Rattle.pci.specs.declared.Msi.the-variants.{None, Message}
 use Rattle.configuration.specs.Configuration.{identity, freshOf, writeByteOf, writeOf}
 use Rattle.pci.specs.Interrupts.{controllerOf, streamOf, sourcesOf, statusOf, pendingOf, messages, levelOf, sentOf, messageOf, updateOf}
-use Rattle.configuration.proofs.Writes.{both, byte-by}
+use Rattle.configuration.proofs.Writes.{byte-by}
 use Rattle.pci.proofs.Scan.{found}
 
 -- A new device's configuration.
@@ -35,19 +34,8 @@ pub fresh-identity : take 4 freshOf ≡ bytesOf 4 identity
 unfolding freshOf storeAt
 fresh-identity = refl
 
--- a test that computes
-below : List ℕ → Bool
-below [] = true
-below (x ∷ l) = ltb x 256 && below l
-
-bytes-below : (l : List ℕ) → below l ≡ true → Bytes l
-unfolding below
-bytes-below [] h i = omega arith
-bytes-below (x ∷ l) h zero = ltb-true x 256 (both (ltb x 256) (below l) h .0)
-bytes-below (x ∷ l) h (suc i) = bytes-below l (both (ltb x 256) (below l) h .1) i
-
 pub bytes-fresh : Bytes freshOf
-unfolding freshOf storeAt below
+unfolding freshOf storeAt
 bytes-fresh = bytes-below freshOf refl
 
 -- A write.
@@ -103,15 +91,11 @@ pub at-most-one : (m : Msi) → length (sentOf m) ≤ 1
 at-most-one None = omega arith
 at-most-one (Message a d) = omega arith
 
-sent-cond : (t : Bool) (m : Msi) → sentOf (cond t m None) ≡ cond t (sentOf m) []
-sent-cond true m = refl
-sent-cond false m = refl
-
 -- an update sends the configured message, where an interrupt is pending that goes as a message and was not asserted; else nothing
 pub sent : (config regs : List ℕ) (asserted : Bool)
     → sentOf (updateOf config regs asserted .signal .msi) ≡ cond (pendingOf regs && messages config && not asserted) (sentOf (messageOf config)) []
 unfolding updateOf
-sent config regs asserted = sent-cond (pendingOf regs && messages config && not asserted) (messageOf config)
+sent config regs asserted = cond-map sentOf (pendingOf regs && messages config && not asserted) (messageOf config) None
 
 asserted-by : (config regs : List ℕ) (asserted : Bool) → updateOf config regs asserted .signal .asserted ≡ (pendingOf regs && messages config)
 unfolding updateOf

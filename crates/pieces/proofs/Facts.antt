@@ -4,13 +4,14 @@ use mathlib.Core.Path.{_≡_, refl, sym, _∙_, subst}
 use mathlib.Core.Bool.{Bool, true, false, true≢false}
 use mathlib.Core.List.{List}
 use native.Mathlib.Omega.{arith}
-use lib.ListN.{length, take, drop, length-drop}
-use lib.Seq.{length-take-le}
+use lib.ListN.{length, take, drop}
 use Rattle.word.specs.Place.{putAt}
+use Rattle.word.proofs.Lists.{length-part}
 use Rattle.word.proofs.Put.{length-put}
 use Rattle.positions.proofs.Change.{length-push}
 use Rattle.stream.specs.declared.Stream.{Stream}
 use Rattle.stream.specs.declared.Cyclic.{Cyclic}
+use Rattle.stream.specs.Streams.{listSize}
 use Rattle.plan.specs.declared.End.{End}
 use Rattle.plan.specs.declared.End.the-variants.{Inside, Plain, Flagged}
 use Rattle.pieces.specs.Pieces.{EndOk, nextOf, listOf, memoryOf, pcmOf, State, pieceOf, piecesOf}
@@ -19,11 +20,11 @@ use Rattle.pieces.proofs.Turns.{Further, piece-further, pieces-by, piec
 -- a part put over as many bytes
 length-put-part : (at : ℕ) (l : List ℕ) (from n : ℕ) (k : List ℕ) → at + n ≤ length l → from + n ≤ length k → length (putAt at (take n (drop from k)) l) ≡ length l
 length-put-part at l from n k fits there =
-    length-put at (take n (drop from k)) l (omega (arith, length-take-le n (drop from k) (omega (arith, length-drop from k))))
+    length-put at (take n (drop from k)) l (omega (arith, length-part n from k (omega arith)))
 
 -- lengths stay
 
-pub length-list : (l : List ℕ) (s : Stream) (n : ℕ) (end : End) → EndOk s end → 34816 ≤ length l → length (listOf l s n end) ≡ length l
+pub length-list : (l : List ℕ) (s : Stream) (n : ℕ) (end : End) → EndOk s end → listSize ≤ length l → length (listOf l s n end) ≡ length l
 length-list l s n Inside room long = refl
 length-list l s n Plain room long = refl
 length-list l s n Flagged room long = length-push (s .pending) (s .submitted + n) l (omega arith)
@@ -39,7 +40,7 @@ length-pcm true m at pcm done n fits room = refl
 length-pcm false m at pcm done n fits room = length-put-part done pcm at n m room fits
 
 module _ (g : Cyclic) (count fuel : ℕ) (x : State) where
-  pub pieces-list-length : 34816 ≤ length (x .list) → length (piecesOf fuel g count x .state .list) ≡ length (x .list)
+  pub pieces-list-length : listSize ≤ length (x .list) → length (piecesOf fuel g count x .state .list) ≡ length (x .list)
   pieces-list-length long =
       pieces-keep g count (λ y. length (y .list) ≡ length (x .list))
       (λ y at n end more k h. length-list (y .list) (y .stream) n end (k .room) (omega arith) ∙ h) fuel x refl

@@ -4,9 +4,10 @@ use mathlib.Core.Path.{_≡_, ap, _∙_}
 use mathlib.Core.Bool.{Bool, true, false}
 use mathlib.Core.List.{List, _++_}
 use native.Mathlib.Omega.{arith}
-use lib.ListN.{length, take, drop, length-drop}
-use lib.Seq.{drop-drop, length-take-le}
+use lib.ListN.{length, take, drop}
+use lib.Seq.{drop-drop}
 use Rattle.word.specs.Place.{putAt}
+use Rattle.word.proofs.Lists.{length-part, part-count}
 use Rattle.memory.specs.Memory.{Access, accessOf, readOf, writeOf}
 use Rattle.memory.proofs.Laws.{read-inside, write-inside}
 use Rattle.stream.specs.declared.Stream.{Stream}
@@ -17,21 +18,15 @@ use Rattle.plan.specs.declared.Plan.the-variants.{Failed, Full, Move}
 use Rattle.plan.specs.Plans.{planOf}
 use Rattle.pieces.specs.Pieces.{nextOf, listOf, memoryOf, pcmOf, stateOf, outOf, doneOf, pieceOf}
 
--- the bytes from `done` to `done + n`, as the code computes their count
-part : (pcm : List ℕ) (done n : ℕ) → take (done + n - done) (drop done pcm) ≡ take n (drop done pcm)
-part pcm done n =
-    let e : done + n - done ≡ n = omega arith in
-    ap (λ (k : ℕ). take k (drop done pcm)) e
-
 -- n bytes between memory and the samples, both long enough
 module _ (m : List ℕ) (at : ℕ) (pcm : List ℕ) (done n : ℕ) (fits : at + n ≤ length m) (room : done + n ≤ length pcm) where
-  length-part : length (take n (drop done pcm)) ≡ n
-  length-part = length-take-le n (drop done pcm) (omega (arith, length-drop done pcm))
+  sized : length (take n (drop done pcm)) ≡ n
+  sized = length-part n done pcm room
 
   -- a write of a part of the samples
   pub captured : (r : Bool) (l : List ℕ) → accessOf r l ≡ writeOf m at (take (done + n - done) (drop done pcm)) → l ≡ putAt at (take n (drop done pcm)) m
   captured r l e =
-      ap (λ (x : Access). x .bytes) (e ∙ ap (writeOf m at) (part pcm done n) ∙ write-inside m at (take n (drop done pcm)) (omega (arith, length-part)))
+      ap (λ (x : Access). x .bytes) (e ∙ ap (writeOf m at) (part-count n done pcm) ∙ write-inside m at (take n (drop done pcm)) (omega (arith, sized)))
 
   -- a read over a part of the samples
   pub played : (r : Bool) (l : List ℕ) → accessOf r l ≡ readOf m at (take (done + n - done) (drop done pcm))
@@ -39,9 +34,8 @@ module _ (m : List ℕ) (at : ℕ) (pcm : List ℕ) (done n : ℕ) (fits : at + 
   unfolding putAt
   played r l e =
       let count : done + n - done ≡ n = omega arith in
-      let own : length (take n (drop at m)) ≡ n = length-take-le n (drop at m) (omega (arith, length-drop at m)) in
-      let is : l ≡ take n (drop at m) = ap (λ (x : Access). x .bytes) (e ∙ ap (readOf m at) (part pcm done n) ∙ read-inside m at (take n (drop done pcm)) (omega (arith, length-part)) ∙ ap (λ (k : ℕ). accessOf true (take k (drop at m))) length-part) in
-      rw (is, count, drop-drop n done pcm, own)
+      let is : l ≡ take n (drop at m) = ap (λ (x : Access). x .bytes) (e ∙ ap (readOf m at) (part-count n done pcm) ∙ read-inside m at (take n (drop done pcm)) (omega (arith, sized)) ∙ ap (λ (k : ℕ). accessOf true (take k (drop at m))) sized) in
+      rw (is, count, drop-drop n done pcm, length-part n at m fits)
 
 -- a piece, by its plan
 module _ (g : Cyclic) (s : Stream) (l m pcm : List ℕ) (done count : ℕ) (p : Plan) (ep : p ≡ planOf g s m (count - done)) where

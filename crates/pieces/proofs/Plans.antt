@@ -1,7 +1,6 @@
 -- What holds of every piece that a plan moves, from the definitions alone. Assumes nothing.
 use Prim.Native.Nat.{ℕ, _+_, _%_, _^_, _≤_, _<_}
-use mathlib.Core.Path.{_≡_, refl}
-use mathlib.Core.Bool.{Bool, true, false, cond}
+use mathlib.Core.Path.{_≡_}
 use mathlib.Core.List.{List}
 use native.Mathlib.Omega.{arith}
 use native.Mathlib.Nat.{mod-lt}
@@ -9,6 +8,7 @@ use borrow.Author.Tests.{ltb-true, ltb-false, leb-true, eqb-true}
 use lib.Dec.{ltb, leb, eqb}
 use lib.ListN.{length}
 use Rattle.word.specs.Value.{Bytes}
+use Rattle.word.proofs.Choices.{by-cond}
 use Rattle.word.proofs.Place.{word-bound}
 use Rattle.memory.specs.declared.Descriptor.{Descriptor}
 use Rattle.memory.specs.declared.Fetched.the-variants.{Outside, Entry}
@@ -22,11 +22,6 @@ use Rattle.plan.specs.declared.Plan.the-variants.{Failed, Full, Move}
 use Rattle.stream.specs.Streams.{places, maxCount}
 use Rattle.plan.specs.Plans.{descriptorAt, sizeOf, endOf, placedOf, entryOf, fetchedOf, planOf}
 use Rattle.pieces.specs.Pieces.{EndOk}
-
--- what holds of both arms, each under its test, holds of the choice
-pub by-cond : {A : Type 0} (P : A → Type 0) (b : Bool) (x y : A) → (b ≡ true → P x) → (b ≡ false → P y) → P (cond b x y)
-by-cond P true x y f h = f refl
-by-cond P false x y f h = h refl
 
 -- an end of the descriptor is reached by its last byte
 abbrev pub Ends : Stream → Descriptor → ℕ → End → Type 0

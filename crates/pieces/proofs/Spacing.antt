@@ -17,7 +17,7 @@ use Rattle.plan.specs.declared.End.{End}
 use Rattle.plan.specs.declared.End.the-variants.{Inside, Plain, Flagged}
 use Rattle.plan.specs.declared.Plan.{Plan}
 use Rattle.plan.specs.declared.Plan.the-variants.{Failed, Full, Move}
-use Rattle.stream.specs.Streams.{places, freshOf, validOf}
+use Rattle.stream.specs.Streams.{places, listSize, period, freshOf, validOf}
 use Rattle.plan.specs.Plans.{planOf}
 use Rattle.pieces.specs.Pieces.{State, movedOf, doneOf, pieceOf, piecesOf}
 use Rattle.stream.specs.Update.{retiredOf, updateOf}
@@ -86,7 +86,7 @@ pub fresh-spaced : (list : List ℕ) → SpacedAt freshOf list
 unfolding freshOf positionsOf
 fresh-spaced list = tt
 
-pub update-spaced : (s : Stream) (list : List ℕ) (latency : ℕ) → s .pending ≤ places → 34816 ≤ length list → SpacedAt s list
+pub update-spaced : (s : Stream) (list : List ℕ) (latency : ℕ) → s .pending ≤ places → listSize ≤ length list → SpacedAt s list
     → let u = updateOf s list latency in SpacedAt (u .updated .stream) (u .list)
 unfolding updateOf
 update-spaced s list latency few long f =
@@ -95,7 +95,7 @@ update-spaced s list latency few long f =
 
 module _ (g : Cyclic) (count : ℕ) where
   -- one piece, by how it ends
-  pub moved-spaced : (x : State) (at n : ℕ) (end : End) → Moves g count x at n end → 34816 ≤ length (x .list) → SpacedAt (x .stream) (x .list)
+  pub moved-spaced : (x : State) (at n : ℕ) (end : End) → Moves g count x at n end → listSize ≤ length (x .list) → SpacedAt (x .stream) (x .list)
       → let y = movedOf g x at n end in SpacedAt (y .stream) (y .list)
   moved-spaced x at n Inside k long f =
       let s = x .stream in
@@ -108,10 +108,10 @@ module _ (g : Cyclic) (count : ℕ) where
       rw (moved-positions s (x .list) (g .lvi) n Flagged (k .room) (k .submitted) long)
       (spaced-append (s .offset) (s .submitted) (s .submitted + n) (viewOf x) (omega (arith, k .ends, k .frame)) f)
 
-  pub pieces-spaced : (fuel : ℕ) (x : State) → 34816 ≤ length (x .list) → SpacedAt (x .stream) (x .list)
+  pub pieces-spaced : (fuel : ℕ) (x : State) → listSize ≤ length (x .list) → SpacedAt (x .stream) (x .list)
       → let y = piecesOf fuel g count x .state in SpacedAt (y .stream) (y .list)
   pieces-spaced fuel x long f =
-      pieces-keep g count (λ y. (34816 ≤ length (y .list)) × SpacedAt (y .stream) (y .list))
+      pieces-keep g count (λ y. (listSize ≤ length (y .list)) × SpacedAt (y .stream) (y .list))
       (λ y at n end more k h. (rw (length-list (y .list) (y .stream) n end (k .room) (h .0)) (h .0), moved-spaced y at n end k (h .0) (h .1))) fuel x (long, f) .1
 
 -- all that the limit rests on, of a stream that was at most 16,384 bytes ahead of what is heard when its period began
@@ -120,7 +120,7 @@ record Ahead (x : State) : Type 0 where
   spaced : SpacedAt (x .stream) (x .list)
   ahead : x .stream .submitted ≤ x .stream .consumed + (16384 + x .done)
 
-module _ (g : Cyclic) (count : ℕ) (short : count ≤ 1024) (byte : g .lvi ≤ 255) where
+module _ (g : Cyclic) (count : ℕ) (short : count ≤ period) (byte : g .lvi ≤ 255) where
   moved-ahead : (x : State) (at n : ℕ) (end : End) → x .done < count → Moves g count x at n end → Ahead x → Ahead (movedOf g x at n end)
   moved-ahead x at n end more k h =
       record {
@@ -143,7 +143,7 @@ module _ (g : Cyclic) (count : ℕ) (short : count ≤ 1024) (byte : g .lvi ≤ 
           absurd (omega (arith, k .few, k .frame, k .ends, k .full, h .ahead))
       go (Move at n end) k = refl
 
-  pub pieces-not-full : (fuel : ℕ) (x : State) → 34816 ≤ length (x .list) → validOf (x .stream) (x .list) ≡ true → SpacedAt (x .stream) (x .list)
+  pub pieces-not-full : (fuel : ℕ) (x : State) → listSize ≤ length (x .list) → validOf (x .stream) (x .list) ≡ true → SpacedAt (x .stream) (x .list)
       → x .stream .submitted ≤ x .stream .consumed + (16384 + x .done) → piecesOf fuel g count x .full ≡ false
   pieces-not-full fuel x long valid spaced ahead =
       pieces-by g count (λ fuel y o. Ahead y → o .full ≡ false)

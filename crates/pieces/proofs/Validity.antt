@@ -7,16 +7,16 @@ use native.Mathlib.Numerals.{add-one}
 use borrow.Author.Tests.{eqb-false}
 use lib.Dec.{eqb}
 use lib.ListN.{length}
+use Rattle.word.proofs.Choices.{by-cond}
 use Rattle.positions.specs.Positions.{positionsOf}
 use Rattle.positions.proofs.Order.{rises-within, rises-last, rises-append}
 use Rattle.positions.proofs.Change.{length-push, push-appends}
 use Rattle.stream.specs.declared.Cyclic.{Cyclic}
 use Rattle.plan.specs.declared.End.{End}
 use Rattle.plan.specs.declared.End.the-variants.{Inside, Plain, Flagged}
-use Rattle.stream.specs.Streams.{validOf}
+use Rattle.stream.specs.Streams.{listSize, validOf}
 use Rattle.pieces.specs.Pieces.{State, followingOf, movedOf, piecesOf}
 use Rattle.stream.proofs.Validity.{Valid, valid-parts, parts-valid}
-use Rattle.pieces.proofs.Plans.{by-cond}
 use Rattle.pieces.proofs.Turns.{Moves, pieces-keep}
 
 -- the next descriptor's index is a byte, as the last one's is
@@ -26,7 +26,7 @@ following-listed descriptor lvi h byte =
 
 -- a list with all its places, and a valid stream
 abbrev pub Kept : State → Type 0
-Kept x = (34816 ≤ length (x .list)) × Valid (x .stream) (x .list)
+Kept x = (listSize ≤ length (x .list)) × Valid (x .stream) (x .list)
 
 module _ (g : Cyclic) (count : ℕ) (byte : g .lvi ≤ 255) where
   pub moved-kept : (x : State) (at n : ℕ) (end : End) → x .done < count → Moves g count x at n end → Kept x → Kept (movedOf g x at n end)
@@ -68,7 +68,7 @@ module _ (g : Cyclic) (count : ℕ) (byte : g .lvi ≤ 255) where
         },
       )
 
-  pub pieces-valid : (fuel : ℕ) (x : State) → 34816 ≤ length (x .list) → validOf (x .stream) (x .list) ≡ true
+  pub pieces-valid : (fuel : ℕ) (x : State) → listSize ≤ length (x .list) → validOf (x .stream) (x .list) ≡ true
       → let y = piecesOf fuel g count x .state in validOf (y .stream) (y .list) ≡ true
   pieces-valid fuel x long valid =
       parts-valid _ _ (pieces-keep g count Kept moved-kept fuel x (long, valid-parts (x .stream) (x .list) valid) .1)

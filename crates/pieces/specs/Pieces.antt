@@ -13,7 +13,7 @@ use Rattle.plan.specs.declared.End.the-variants.{Inside, Plain, Flagged}
 use Rattle.plan.specs.declared.Plan.{Plan}
 use Rattle.plan.specs.declared.Plan.the-variants.{Failed, Full, Move}
 use Rattle.pieces.specs.declared.Step.{Step}
-use Rattle.stream.specs.Streams.{places, stream}
+use Rattle.stream.specs.Streams.{places, listSize, period, stream}
 use Rattle.plan.specs.Plans.{planOf}
 
 -- the descriptor after one that has ended: the next, or the first behind the last
@@ -111,6 +111,6 @@ piecesOf (suc fuel) g count x = again (ltb (x .done) count) (pieceOf g count x) 
 -- what the pieces of a period of `count` bytes require: a turn to split at, and room for the samples and for every position
 pub record PeriodNeeds (g : Cyclic) (count : ℕ) (list pcm : List ℕ) : Type 0 where
   pub cyclic : 0 < g .cbl
-  pub short : count ≤ 1024
+  pub short : count ≤ period
   pub room : count ≤ length pcm
-  pub long : 34816 ≤ length list
+  pub long : listSize ≤ length list

@@ -6,6 +6,7 @@ use stream::Stream;
 ghost use mathlib.Core.Path.{_≡_};
 ghost use Prim.Native.Nat.{_+_, _^_, _≤_, _<_};
 ghost use lib.ListN.{length};
+ghost use Rattle.stream.specs.Streams.{listSize};
 ghost use Rattle.pieces.specs.Pieces.{followingOf, nextOf, listOf, EndOk, NextNeeds, memoryOf, pcmOf, stateOf, stepOut, pieceOf, piecesOf, PeriodNeeds};
 
 // What a piece, or all pieces of a period, left beside the lent lists.
@@ -63,7 +64,7 @@ fn next_of(s: Stream, lvi: u32, n: u32, end: End) -> Stream
 
 // Puts a flagged end's position, submitted after the piece, behind those pending.
 fn push_end(list: &mut [u8], s: Stream, n: u32, end: End)
-    requires { ⌜ (34816 ≤ length (now list)) × (s .submitted + n < 2 ^ 64) × EndOk s end ⌝ }
+    requires { ⌜ (listSize ≤ length (now list)) × (s .submitted + n < 2 ^ 64) × EndOk s end ⌝ }
     ensures { λ _. ⌜ now (list .exit) ≡ listOf (now (list .entry)) s n end ⌝ }
 {
     match end {

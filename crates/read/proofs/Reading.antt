@@ -1,23 +1,16 @@
--- A guest's reads: `n` is what the check gave; and zeros stored one by one. Assumes nothing.
-use Prim.Native.Nat.{ℕ, _≤_}
-use mathlib.Core.Path.{_≡_, ap, _∙_}
+-- A guest's reads: `n` is what the check gave. Assumes nothing.
+use Prim.Native.Nat.{ℕ}
+use mathlib.Core.Path.{_≡_}
 use mathlib.Core.Logic.{_≢_}
-use mathlib.Core.List.{List, _++_, append-nil}
-use native.Mathlib.Omega.{arith}
+use mathlib.Core.List.{List}
 use borrow.Author.Tests.{eq-eqb, ne-eqb}
-use lib.ListN.{length, drop, replicate, drop-of-length-le}
+use lib.ListN.{length, replicate}
 use Rattle.configuration.specs.Configuration as pci
 use Rattle.host.specs.declared.Host.{Host}
 use Rattle.device.specs.declared.Hda.{Hda}
 use Rattle.device.specs.Machines.{checkOf}
 use Rattle.read.specs.declared.Status.{Status}
 use Rattle.read.specs.Reads.{Shown, shownOf, statusOf, readWith, readOf, barReadOf, valueOf, configReadOf}
-
--- a list whose first i bytes were made 0, all of them
-pub all-zeros : (l l₀ : List ℕ) (i : ℕ) → i ≡ length l₀ → l ≡ replicate i 0 ++ drop i l₀ → l ≡ replicate (length l₀) 0
-all-zeros l l₀ i ei e =
-    let over : length l₀ ≤ i = omega arith in
-    e ∙ ap (λ (x : List ℕ). replicate i 0 ++ x) (drop-of-length-le l₀ over) ∙ append-nil (replicate i 0) ∙ ap (λ (n : ℕ). replicate n 0) ei
 
 module _ (d : Hda) (h : Host) (lists : List ℕ) (queues n : ℕ) (e : n ≡ checkOf d h lists queues) (s : Status) (es : s ≡ statusOf n d) where
   -- a buffer, which a refusal leaves as it was

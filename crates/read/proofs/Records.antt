@@ -16,9 +16,10 @@ use Rattle.clock.specs.Billionths.{billion}
 use Rattle.stream.specs.declared.Stream.{Stream}
 use Rattle.stream.specs.Streams as stream
 use Rattle.stream.specs.Box.{streams}
+use Rattle.stream.specs.Streams.{listSize}
 use Rattle.configuration.specs.Configuration.{identity}
 use Rattle.device.specs.Devices as devices
-use Rattle.device.specs.Devices.{listSize, streamValid, streamsValid, validOf}
+use Rattle.device.specs.Devices.{streamValid, streamsValid, validOf}
 use Rattle.record.specs.Loads.{streamAt, deviceAt}
 use Rattle.record.proofs.Places.{row-at}
 

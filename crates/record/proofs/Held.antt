@@ -14,12 +14,12 @@ use denote.Array.{each}
 use Rattle.word.specs.Parts.{partOf}
 use Rattle.codec.proofs.Values.{held-well-formed}
 use Rattle.stream.specs.declared.Stream.{Stream}
-use Rattle.stream.specs.Streams.{freshOf}
+use Rattle.stream.specs.Streams.{listSize, freshOf}
 use Rattle.stream.specs.Box.{streams}
 use Rattle.stream.proofs.Stream as stream
 use Rattle.stream.proofs.Validity.{valid-parts}
 use Rattle.device.specs.declared.Hda.{Hda}
-use Rattle.device.specs.Devices.{listSize, streamAt, validOf}
+use Rattle.device.specs.Devices.{streamAt, validOf}
 use Rattle.device.proofs.Hda as hda
 use Rattle.device.proofs.Checks.{device-parts}
 use Rattle.device.proofs.Held.{streams-held}

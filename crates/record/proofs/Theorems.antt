@@ -11,6 +11,7 @@ use lib.ListN.{length, take, drop, getD, drop-of-length-le}
 use lib.Seq.{drop-drop}
 use Rattle.word.specs.Value.{bytesOf, Bytes}
 use Rattle.word.specs.Place.{putAt, wordAt}
+use Rattle.word.proofs.Choices.{left, right}
 use Rattle.word.proofs.Put.{put-same, put-there}
 use Rattle.codec.specs.declared.Codec.{Codec}
 use Rattle.codec.specs.WellFormed.{WellFormed}
@@ -19,7 +20,6 @@ use Rattle.codec.proofs.Bytes.{length-records, load-well-formed, store-load, lo
 use Rattle.stream.specs.declared.Stream.{Stream}
 use Rattle.stream.specs.Streams.{freshOf}
 use Rattle.stream.specs.Box.{streams}
-use Rattle.queue.proofs.Tests.{left, right}
 use Rattle.device.specs.declared.Hda.{Hda}
 use Rattle.device.specs.Devices as devices
 use Rattle.record.specs.Layout.{latchPlace, deviceSize}

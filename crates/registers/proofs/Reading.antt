@@ -3,30 +3,29 @@ use Prim.Native.Nat.{ℕ, zero, suc, _+_, _-_, _/_, _<_, _≤_}
 use mathlib.Core.Path.{_≡_, sym, ap, _∙_}
 use mathlib.Core.Bool.{true}
 use mathlib.Core.List.{List, [], _∷_, _++_}
-use mathlib.Core.Logic.{⊎-elim}
 use native.Mathlib.Omega.{arith}
 use native.Mathlib.Numerals.{add-one}
 use native.Mathlib.Nat.{add-zero}
 use borrow.Author.Tests.{ltb-true, le-leb, le-ltb}
 use lib.ListN.{length, take, set}
 use lib.Seq.{take-suc-set}
+use Rattle.word.proofs.Choices.{both, by-either}
 use Rattle.stream.specs.Box.{streams}
 use Rattle.registers.specs.Places.{size}
 use Rattle.registers.specs.Reads.{aliased, readByteOf, readOf}
-use Rattle.registers.proofs.Tests.{both, either, within-true}
+use Rattle.registers.proofs.Tests.{within-true}
 
 -- an alias is of a byte of the file
 pub alias-near : (a : ℕ) → aliased a ≡ true → (0x2000 ≤ a) × (a - 0x2000 < size)
 unfolding aliased
 alias-near a h =
-    ⊎-elim
+    by-either _ _ h
     (λ w. let n = within-true 0x2030 0x2034 a w in (omega arith, omega arith))
     (λ w.
     let b = both _ _ w in
     let n = within-true 0x2080 0x4000 a (b .0) in
     let few : (a - 0x2080) / 0x20 < streams = ltb-true _ _ (both _ _ (b .1) .0) in
     (omega arith, omega arith))
-    (either _ _ h)
 
 -- past all aliases
 pub read-far : (regs : List ℕ) (a : ℕ) → 0x4000 ≤ a → readByteOf regs a ≡ 0

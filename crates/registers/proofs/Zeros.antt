@@ -3,16 +3,9 @@ use Prim.Native.Nat.{ℕ, _+_, _<_}
 use mathlib.Core.Path.{_≡_, sym, ap, _∙_}
 use mathlib.Core.List.{List, [], _∷_}
 use native.Mathlib.Omega.{arith}
-use native.Mathlib.Numerals.{add-one}
 use lib.ListN.{length, set, replicate, length-replicate, replicate-append-replicate}
-use lib.Seq.{set-split}
 use Rattle.word.specs.Place.{putAt}
-use Rattle.word.proofs.Put.{length-put, put-join}
-
--- a byte stored is put
-set-put : (at v : ℕ) (l : List ℕ) → at < length l → set l at v ≡ putAt at (v ∷ []) l
-unfolding putAt
-set-put at v l h = rw (set-split l at v h, add-one)
+use Rattle.word.proofs.Put.{set-put, length-put, put-join}
 
 pub zeros-turn : (at i : ℕ) (l : List ℕ) → at + i < length l → set (putAt at (replicate i 0) l) (at + i) 0 ≡ putAt at (replicate (i + 1) 0) l
 zeros-turn at i l h =

@@ -1,17 +1,17 @@
 -- Laws of the calls that take more than one step: a new device behind a new host end, a state that comes back beside guest memory, bytes laid into guest
 -- memory, and a part that is lent. Assumes nothing.
 use Prim.Native.Nat.{ℕ, _-_, _≤_, _<_}
-use mathlib.Core.Path.{_≡_, refl, sym, ap, _∙_}
-use mathlib.Core.Bool.{Bool, true, false, cond}
+use mathlib.Core.Path.{_≡_, sym, ap, _∙_}
+use mathlib.Core.Bool.{Bool}
 use mathlib.Core.Logic.{_≢_}
 use mathlib.Core.List.{List}
-use lib.ListN.{length, take, replicate, length-replicate}
-use lib.Seq.{length-take-le}
+use lib.ListN.{length, replicate, length-replicate}
 use borrow.Author.Tests.{eq-eqb, ne-eqb, lt-ltb, le-ltb}
 use Rattle.word.specs.Place.{putAt}
-use Rattle.port_device.specs.Calls.{Returned, returned, lent, behind, none, restoredBy, Made, made, Stored, storedOut, newOf}
+use Rattle.word.proofs.Choices.{cond-map}
+use Rattle.port_device.specs.Calls.{Returned, returned, lent, behind, none, restoredBy, made, storedOut, newOf}
 use Rattle.reply.specs.Replies.{isMachine}
-use Rattle.port_host.specs.Calls.{Kept, kept}
+use Rattle.port_host.specs.Calls.{kept}
 use Rattle.port_host.specs.Calls as hosts
 use Rattle.rehearse.specs.Calls.{freshOf, reached, pokeOf}
 
@@ -30,15 +30,11 @@ module _ (memory : List ℕ) where
   abbrev beside : Returned → Returned
   beside x = returned (x .reply) (lent (x .lent .device) (x .lent .host) (x .lent .lists) (x .lent .queues) memory)
 
-  beside-cond : (b : Bool) (x y : Returned) → beside (cond b x y) ≡ cond b (beside x) (beside y)
-  beside-cond true x y = refl
-  beside-cond false x y = refl
-
   pub restored-beside : (state device host lists queues : List ℕ) (r : ℕ) (d h l : List ℕ)
       → returned r (lent d h l queues none) ≡ behind (restoredBy state) (lent device host lists queues none)
       → returned r (lent d h l queues memory) ≡ behind (restoredBy state) (lent device host lists queues memory)
   unfolding behind
-  restored-beside state device host lists queues r d h l e = ap beside e ∙ beside-cond (isMachine device host) _ _
+  restored-beside state device host lists queues r d h l e = ap beside e ∙ cond-map beside (isMachine device host) _ _
 
 module _ (address : ℕ) (bytes memory : List ℕ) where
   pub poke-behind : length memory < address → reached 1 memory ≡ pokeOf address bytes memory
@@ -53,9 +49,6 @@ module _ (address : ℕ) (bytes memory : List ℕ) where
       → reached 0 after ≡ pokeOf address bytes memory
   unfolding pokeOf
   poke-done h g after e = rw (le-ltb (length memory) address h, le-ltb (length memory - address) (length bytes) g, e)
-
-pub prefix-length : (n : ℕ) (l : List ℕ) → n ≤ length l → n ≡ length (take n l)
-prefix-length n l h = sym (length-take-le n l h)
 
 -- a law, since checking by computation would count the elements
 pub zeros-length : (n : ℕ) → n ≡ length {A = ℕ} (replicate n 0)

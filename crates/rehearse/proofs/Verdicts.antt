@@ -3,10 +3,10 @@ use Prim.Native.Nat.{ℕ, zero, suc, _+_, _-_, _≤_, _<_}
 use mathlib.Core.Path.{_≡_, refl, ap, _∙_}
 use mathlib.Core.Bool.{Bool, true, false, not}
 use mathlib.Core.Logic.{_≢_}
-use mathlib.Core.List.{List, _++_, append-nil}
+use mathlib.Core.List.{List}
 use native.Mathlib.Omega.{arith}
 use lib.Dec.{eqb}
-use lib.ListN.{length, take, drop, replicate, drop-of-length-le}
+use lib.ListN.{length, take, drop}
 use borrow.Author.Tests.{eq-eqb, ne-eqb, lt-ltb, le-ltb}
 use Rattle.port_device.specs.Calls.{Lent, lent, Returned, Made, Stored, pausedOf}
 use Rattle.port_reads.specs.Reads.{Shown}
@@ -16,12 +16,6 @@ use Rattle.rehearse.specs.declared.play.Tally.{Tally}
 use Rattle.rehearse.specs.Calls.{freshOf, changeOf, showOf, hostOf, Reached, memoryOf}
 use Rattle.rehearse.specs.Recorded.{callAt, agreesOf, countedOf, lengthOf}
 use Rattle.rehearse.specs.Verdict.{Performed, freshIn, reachedIn, pausedIn, changedIn, shownIn, hostIn, performOf, Judged, judged, erasedOf, digestAfter, runOf, partIn, judgeOf, Progress, progress, turnOf, playFrom}
-
--- a list whose first i bytes were erased, all of them
-pub all-erased : (l l₀ : List ℕ) (i : ℕ) → length l₀ ≤ i → i ≤ length l₀ → l ≡ replicate i 0xee ++ drop i l₀ → l ≡ erasedOf l₀
-all-erased l l₀ i over within e =
-    let all : i ≡ length l₀ = omega arith in
-    e ∙ ap (λ (x : List ℕ). replicate i 0xee ++ x) (drop-of-length-le l₀ over) ∙ append-nil (replicate i 0xee) ∙ ap (λ (n : ℕ). replicate n 0xee) all
 
 module _ (c : Call) (bytes : List ℕ) (x : Lent) (into : List ℕ) where
   pub perform-fresh : c .kind ≡ 0 → (s : Stored) → s ≡ freshOf (not (eqb (c .first) 0)) (x .device) (x .host) (length (x .lists)) (length (x .queues))

@@ -5,6 +5,7 @@ use mathlib.Core.List.{List, [], _∷_}
 use lib.Dec.{eqb, ltb}
 use lib.ListN.{length, take, drop}
 use Rattle.word.specs.Place.{wordAt}
+use Rattle.stream.specs.Streams.{listSize}
 
 -- a polynomial modulo the largest prime below 2^32
 abbrev pub stepOf : ℕ → ℕ → ℕ
@@ -28,7 +29,7 @@ partOf from count sum space =
 -- the pending positions of both streams, whose counts are in the device record, and the queued bytes, whose counts are in that of the host end
 -- (docs/LAYOUT.md)
 abbrev pub pendingOf : List ℕ → List ℕ → ℕ → ℕ
-pendingOf device lists sum = partOf 34816 (8 * numberOf 744 device) (partOf 0 (8 * numberOf 710 device) sum lists) lists
+pendingOf device lists sum = partOf listSize (8 * numberOf 744 device) (partOf 0 (8 * numberOf 710 device) sum lists) lists
 
 abbrev pub queuedOf : List ℕ → List ℕ → ℕ → ℕ
 queuedOf host queues sum = partOf 2048 (numberOf 12 host) (partOf 0 (numberOf 7 host) sum queues) queues

@@ -1,4 +1,5 @@
 // A digest of bytes, and that of all that is held after a call: a polynomial modulo a prime, so that one byte that differs always shows.
+use stream::Stream;
 ghost use mathlib.Core.Path.{_≡_};
 ghost use Rattle.rehearse.specs.Digest.{stepOf, digestOf, numberOf, partOf, pendingOf, queuedOf, heldOf};
 
@@ -55,7 +56,7 @@ fn pending(start: u32, device: &[u8], lists: &[u8]) -> u32
     let capture = number(device, 710);
     let playback = number(device, 744);
     let sum = part(start, lists, 0, 8 * (capture as usize));
-    part(sum, lists, 34816, 8 * (playback as usize))
+    part(sum, lists, Stream::LIST, 8 * (playback as usize))
 }
 
 // The bytes that are queued, by their counts in the host end's record.

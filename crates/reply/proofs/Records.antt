@@ -7,7 +7,7 @@ use native.Mathlib.Omega.{arith}
 use borrow.Author.Tests.{eqb-true}
 use lib.Dec.{eqb}
 use lib.ListN.{length}
-use Rattle.queue.proofs.Tests.{left, right}
+use Rattle.word.proofs.Choices.{left, right}
 use Rattle.record.specs.Layout.{deviceSize}
 use Rattle.record.specs.Loads.{isDevice}
 use Rattle.host_record.specs.Hosts.{hostSize, isHost}

@@ -14,9 +14,8 @@ use Rattle.word.proofs.Put.{length-put, put-there, put-part-elsewhere}
 use Rattle.word.proofs.Each.{each-keeps}
 use Rattle.positions.proofs.View.{positions-take}
 use Rattle.stream.specs.declared.Stream.{Stream}
-use Rattle.stream.specs.Streams.{validOf}
+use Rattle.stream.specs.Streams.{listSize, validOf}
 use Rattle.stream.specs.Box.{streams}
-use Rattle.device.specs.Devices.{listSize}
 use Rattle.parse.specs.States.{placeOf}
 use Rattle.restore.specs.Restores.{streamOf, Fits, positionsAt, putPositions, restoredLists}
 use Rattle.restore.proofs.Turns.{length-positions}

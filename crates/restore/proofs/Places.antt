@@ -9,6 +9,7 @@ use native.Mathlib.Nat.{eq-or-lt-of-le}
 use lib.ListN.{length}
 use Rattle.stream.specs.declared.Stream.{Stream}
 use Rattle.stream.specs.Box.{streams}
+use Rattle.stream.specs.Streams.{places}
 use Rattle.record.specs.Loads.{streamAt}
 use Rattle.parse.specs.States.{placeOf}
 use Rattle.restore.specs.Restores.{streamOf, Fits}
@@ -45,5 +46,5 @@ module _ (s : List ℕ) where
     pub read-room : Fits s → i < streams → at + (34 + 8 * t .pending) ≤ length s
     read-room f few = omega (arith, read-next, place-within streams i few, f .whole)
 
-    pub read-few : Fits s → i < streams → t .pending ≤ 4352
+    pub read-few : Fits s → i < streams → t .pending ≤ places
     read-few f few = rw read-same (f .few i few)

@@ -11,6 +11,7 @@ use lib.Seq.{take-at, take-take}
 use Rattle.word.specs.Place.{putAt, wordAt, storeAt}
 use Rattle.word.specs.Each.{eachOf}
 use Rattle.word.specs.Parts.{partOf}
+use Rattle.word.proofs.Choices.{by-cond}
 use Rattle.clock.specs.declared.Clock.{Clock}
 use Rattle.codec.specs.Codecs as codec
 use Rattle.codec.specs.Codecs.{nodeAt}
@@ -20,15 +21,15 @@ use Rattle.format.specs.Format as format
 use Rattle.stream.specs.declared.Stream.{Stream}
 use Rattle.stream.specs.Streams as stream
 use Rattle.stream.specs.Box as box
+use Rattle.stream.specs.Streams.{listSize}
 use Rattle.queue.specs.Queues.{queue}
-use Rattle.queue.proofs.Tests.{by-cond}
 use Rattle.host.specs.declared.Host.{Host}
 use Rattle.host.specs.Hosts as hosts
 use Rattle.registers.specs.Places.{ctl, fmt}
 use Rattle.registers.specs.Reset.{resetStreamOf, resetOf}
 use Rattle.rings.specs.declared.Link.{Link}
 use Rattle.device.specs.declared.Hda.{Hda}
-use Rattle.device.specs.Devices.{listSize, streamAt, freshOf}
+use Rattle.device.specs.Devices.{streamAt, freshOf}
 use Rattle.device.specs.Machines.{checkOf, finishOf}
 use Rattle.device.proofs.Checks.{Passed, device-parts, passed}
 use Rattle.device.proofs.Facts.{answer-number}

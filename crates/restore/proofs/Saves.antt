@@ -17,7 +17,7 @@ use Rattle.node.specs.Nodes as node
 use Rattle.codec.specs.Bytes.{codecAt}
 use Rattle.codec.proofs.Bytes.{record-place}
 use Rattle.stream.specs.declared.Stream.{Stream}
-use Rattle.stream.specs.Streams.{freshOf}
+use Rattle.stream.specs.Streams.{listSize, freshOf}
 use Rattle.stream.specs.Box.{streams}
 use Rattle.registers.specs.Places.{byteAt}
 use Rattle.rings.specs.declared.Link.{Link}
@@ -148,7 +148,7 @@ module _ (d : Hda) (l : List ℕ) (t : TypedDevice d) (k : Kept d l) where
     x = devices.streamAt d i
 
     abbrev list : List ℕ
-    list = partOf devices.listSize i l
+    list = partOf listSize i l
 
     abbrev rest : List ℕ
     rest = streamsOf n (i + 1) d l
@@ -200,7 +200,7 @@ module _ (d : Hda) (l : List ℕ) (t : TypedDevice d) (k : Kept d l) where
   -- stream i of the state: the device's, with its positions, and all there
   pub record Saved (i : ℕ) : Type 0 where
     pub stream : streamOf s i ≡ devices.streamAt d i
-    pub positions : take (8 * devices.streamAt d i .pending) (drop (placeOf s i + 34) s) ≡ take (8 * devices.streamAt d i .pending) (partOf devices.listSize i l)
+    pub positions : take (8 * devices.streamAt d i .pending) (drop (placeOf s i + 34) s) ≡ take (8 * devices.streamAt d i .pending) (partOf listSize i l)
     pub room : placeOf s i + (34 + 8 * devices.streamAt d i .pending) ≤ length s
 
   pub stream-saved : (i : ℕ) → i < streams → Saved i

@@ -12,19 +12,20 @@ use lib.Seq.{take-take}
 use Rattle.word.specs.Value.{valueOf}
 use Rattle.word.specs.Place.{wordAt}
 use Rattle.word.specs.Parts.{partOf}
+use Rattle.word.proofs.Choices.{left, by-cond}
 use Rattle.clock.specs.declared.Clock.{Clock}
 use Rattle.clock.specs.Billionths.{billion}
 use Rattle.stream.specs.declared.Stream.{Stream}
 use Rattle.stream.specs.Streams as stream
 use Rattle.stream.specs.Box.{streams}
+use Rattle.stream.specs.Streams.{listSize}
 use Rattle.queue.specs.declared.Queue.{Queue}
 use Rattle.queue.specs.Queues.{queue, validQueue}
-use Rattle.queue.proofs.Tests.{left, by-cond}
 use Rattle.host.specs.declared.Host.{Host}
 use Rattle.host.specs.Hosts as hosts
 use Rattle.pci.proofs.Facts.{update-identity-kept}
 use Rattle.device.specs.declared.Hda.{Hda}
-use Rattle.device.specs.Devices.{listSize, validOf}
+use Rattle.device.specs.Devices.{validOf}
 use Rattle.device.specs.Machines.{checkOf, answerOf, finishOf}
 use Rattle.device.proofs.Checks.{Passed, device-parts, parts-device, passed, passes}
 use Rattle.device.proofs.Facts.{valid-change, finish-number}

@@ -4,14 +4,14 @@ use mathlib.Core.Path.{_≡_, refl, _∙_}
 use mathlib.Core.Bool.{Bool, true, false, _&&_}
 use mathlib.Core.List.{List}
 use native.Mathlib.Omega.{arith}
-use lib.ListN.{length, take, drop, length-drop}
-use lib.Seq.{length-take-le}
+use lib.ListN.{length, take, drop}
 use Rattle.word.specs.Place.{putAt}
+use Rattle.word.proofs.Lists.{length-part}
 use Rattle.stream.specs.declared.Stream.{Stream}
 use Rattle.stream.specs.Box.{streams}
+use Rattle.stream.specs.Streams.{listSize}
 use Rattle.host.specs.declared.Host.{Host}
 use Rattle.host.specs.Hosts.{failsOf}
-use Rattle.device.specs.Devices.{listSize}
 use Rattle.record.specs.Loads.{streamAt}
 use Rattle.parse.specs.States.{placeOf}
 use Rattle.restore.specs.Restores.{opensOf, refusedFrom, putPositions, Fits}
@@ -39,7 +39,7 @@ module _ (s : List ℕ) (microphone : Bool) (h : Host) (count i : ℕ) where
 module _ (s : List ℕ) (i at j : ℕ) (t : Stream) (place : at ≡ placeOf s i) (own : t ≡ streamAt at s) (size : j ≡ 8 * t .pending) where
   pub length-positions : Fits s → i < streams → length (take j (drop (at + 34) s)) ≡ j
   length-positions f few =
-      length-take-le j (drop (at + 34) s) (omega (arith, length-drop (at + 34) s, read-room s i at t place own f few))
+      length-part j (at + 34) s (omega (arith, read-room s i at t place own f few))
 
   pub positions-put : (l r : List ℕ) → r ≡ putAt (listSize * i) (take j (drop (at + 34) s)) l → r ≡ putPositions s i l
   positions-put l r e = e ∙ rw (size, read-same s i at t place own, place)

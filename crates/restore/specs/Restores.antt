@@ -9,7 +9,7 @@ use Rattle.word.specs.Each.{eachOf, always}
 use Rattle.clock.specs.declared.Clock.{Clock}
 use Rattle.clock.specs.Clock.{shownOf}
 use Rattle.stream.specs.declared.Stream.{Stream}
-use Rattle.stream.specs.Streams.{places}
+use Rattle.stream.specs.Streams.{places, listSize}
 use Rattle.stream.specs.Box.{streams, captures}
 use Rattle.queue.specs.declared.Queue.{Queue}
 use Rattle.queue.specs.Queues.{queue}
@@ -19,7 +19,7 @@ use Rattle.registers.specs.Places.{walclk, ctl, byteAt, has}
 use Rattle.pci.specs.declared.Msi.the-variants.{None}
 use Rattle.device.specs.declared.Hda.{Hda}
 use Rattle.device.specs.declared.Answer.{Answer}
-use Rattle.device.specs.Devices.{listSize, hda}
+use Rattle.device.specs.Devices.{hda}
 use Rattle.device.specs.Machines.{checkOf, answerOf, finishOf}
 use Rattle.record.specs.Layout.{numbersSize}
 use Rattle.record.specs.Rows.{rowOf}

@@ -11,8 +11,8 @@ ghost use mathlib.Core.Path.{_≡_};
 ghost use Prim.Native.Nat.{_+_, _*_, _≤_, _<_};
 ghost use lib.ListN.{length};
 ghost use Rattle.stream.specs.Box.{streams};
+ghost use Rattle.stream.specs.Streams.{listSize};
 ghost use Rattle.host.specs.Hosts.{failsOf};
-ghost use Rattle.device.specs.Devices.{listSize};
 ghost use Rattle.restore.specs.Restores.{opensOf, openingNumber, laterOf, restoredStreams, restoredLists, restoredQueues, restoredHost, restoredDevice, Fits, restoredOut, restoreStep, restoreOf};
 
 // Whether a stream of the state is to be open: it runs, and an input only on a device with a microphone.

@@ -8,6 +8,7 @@ use lib.Dec.{eqb}
 use lib.ListN.{length, take, replicate}
 use lib.Seq.{take-length}
 use Rattle.word.specs.Value.{valueOf, bytesOf}
+use Rattle.word.proofs.Choices.{both}
 use Rattle.word.specs.Place.{wordAt, storeAt}
 use Rattle.memory.specs.Memory.{Access, accessOf, readOf, writeOf}
 use Rattle.memory.proofs.Laws.{read-outside, write-cases}
@@ -16,7 +17,6 @@ use Rattle.codec.specs.declared.Outcome.{Outcome}
 use Rattle.codec.specs.declared.Reply.{Reply}
 use Rattle.codec.specs.declared.Reply.the-variants.{Nothing, Value}
 use Rattle.codec.specs.Codecs.{verbOf}
-use Rattle.registers.proofs.Tests.{both}
 use Rattle.registers.specs.Places.{corbbase, corbrp, corbwp, corbsize, rirbbase, rirbwp, rirbctl, rirbsts, byteAt, has, withBits}
 use Rattle.rings.specs.declared.Link.{Link}
 use Rattle.rings.specs.declared.Command.{Command}

@@ -1,7 +1,7 @@
 -- The rings do what HDA 1.0a says (specs/Hda) in every state, but for the named exceptions (specs/Exceptions). Assumes nothing.
 use Prim.Native.Nat.{ℕ, suc, _+_, _/_, _%_, _≤_, _<_}
 use mathlib.Core.Path.{_≡_, refl, sym, ap, _∙_}
-use mathlib.Core.Bool.{Bool, true, false, cond, _&&_, _||_, false≢true}
+use mathlib.Core.Bool.{Bool, true, false, cond, _&&_, false≢true, or-true}
 use mathlib.Core.List.{List, _++_}
 use mathlib.Core.Option.{Option, none, some}
 use native.Mathlib.Omega.{arith}
@@ -13,9 +13,9 @@ use lib.ListN.{length, getD, replicate, length-set}
 use lib.Seq.{getD-set-same, getD-set-other}
 use Rattle.word.specs.Value.{valueOf, bytesOf, Bytes}
 use Rattle.word.specs.Place.{wordAt}
+use Rattle.word.proofs.Choices.{by-test, both, by-value, by-bit}
 use Rattle.word.proofs.Place.{word-bound, word-pair}
 use Rattle.memory.specs.Memory.{readOf, writeOf}
-use Rattle.codec.proofs.Choices.{by-test, by-value, by-bit, both}
 use Rattle.registers.specs.Places.{corbbase, corbrp, corbwp, corbctl, corbsts, rirbbase, rirbwp, rirbctl, rirbsts, byteAt, has, withBits, dmaOf}
 use Rattle.rings.specs.Rings.{Rings, ringsOf, linkOf, entriesOf, entryAt, countedOf, reportedOf, idleOf, nextResponse, responseOf, currentOf, nextCommand, haltedOf, fetchOf, fetchesOf, runningOf}
 use Rattle.rings_hda.specs.Hda as hda
@@ -244,10 +244,6 @@ count-agrees x = by-test (leb (hda.batchOf (getD (x .regs) 0x5a 0)) (x .link .re
 -- a batch has a response, so none has come where the count is 0
 batch-some : (b : ℕ) → leb (hda.batchOf b) 0 ≡ false
 batch-some b = by-value b 0 (λ e. rw e) λ f. rw f (lt-leb b 0 (omega (arith, eqb-false b 0 f)))
-
-or-true : (t : Bool) → t || true ≡ true
-or-true true = refl
-or-true false = refl
 
 -- And an idle frame exactly where HDA says: where any response has come.
 pub idle-agrees : (x : Rings) → idleOf x ≡ cond (hda.interruptOf (x .regs) (x .link .responses) true) (reportedOf x) x

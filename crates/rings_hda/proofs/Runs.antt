@@ -13,9 +13,9 @@ use lib.Dec.{eqb, leb, ltb}
 use lib.ListN.{length, getD}
 use Rattle.word.specs.Value.{valueOf, Bytes}
 use Rattle.word.specs.Place.{wordAt, storeAt}
+use Rattle.word.proofs.Choices.{by-test, both, by-value}
 use Rattle.word.proofs.Place.{length-store, bytes-store, word-store, word-elsewhere, byte-elsewhere}
 use Rattle.codec.specs.Codecs.{verbOf}
-use Rattle.codec.proofs.Choices.{by-test, by-value, both}
 use Rattle.codec.specs.declared.Codec.{Codec}
 use Rattle.codec.specs.declared.Reply.{Reply}
 use Rattle.codec.specs.declared.Reply.the-variants.{Nothing, Value}

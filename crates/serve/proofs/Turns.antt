@@ -10,20 +10,20 @@ use lib.Dec.{eqb}
 use lib.ListN.{length, take, drop, getD, set, length-drop}
 use lib.Seq.{length-take-le}
 use Rattle.word.specs.Each.{eachOf}
+use Rattle.word.proofs.Choices.{by-cond}
 use Rattle.word.proofs.Each.{each-step, each-stop}
 use Rattle.codec.specs.declared.Codec.{Codec}
 use Rattle.stream.specs.declared.Stream.{Stream}
-use Rattle.stream.specs.Streams.{places, freshOf}
+use Rattle.stream.specs.Streams.{places, listSize, freshOf}
 use Rattle.stream.specs.Box.{streams}
 use Rattle.host.specs.declared.Host.{Host}
 use Rattle.queue.specs.Queues.{capacity}
 use Rattle.host.specs.Hosts.{queueAt}
-use Rattle.queue.proofs.Tests.{by-cond}
 use Rattle.turn.specs.declared.Turned.{Turned}
 use Rattle.turn.specs.Turns.{Turn, turnOut, turnOf, TurnNeeds}
 use Rattle.turn.proofs.Leaves.{TurnLeaves, turn-leaves}
 use Rattle.device.specs.declared.Hda.{Hda}
-use Rattle.device.specs.Devices.{listSize, withRegs, withStream, streamAt}
+use Rattle.device.specs.Devices.{withRegs, withStream, streamAt}
 use Rattle.device.specs.Machines.{Machine, machine}
 use Rattle.serve.specs.declared.Served.{Served}
 use Rattle.serve.specs.Serve.{runs, Turns, turnsOf, bankOf, turnsAnswer, takenOf, turnAt, goesOn, ServeNeeds}

@@ -9,14 +9,14 @@ use Rattle.word.specs.Place.{wordAt}
 use Rattle.word.specs.Parts.{partOf, withPart}
 use Rattle.word.specs.Each.{eachOf}
 use Rattle.stream.specs.declared.Stream.{Stream}
-use Rattle.stream.specs.Streams.{places}
+use Rattle.stream.specs.Streams.{places, listSize}
 use Rattle.stream.specs.Box.{streams}
 use Rattle.queue.specs.Queues.{capacity}
 use Rattle.host.specs.Hosts.{queueAt}
 use Rattle.registers.specs.Places.{ssync, ctl, byteAt, has}
 use Rattle.turn.specs.Turns.{Turn, turnOf}
 use Rattle.device.specs.declared.Hda.{Hda}
-use Rattle.device.specs.Devices.{listSize, hda, withRegs, withStream, streamAt}
+use Rattle.device.specs.Devices.{hda, withRegs, withStream, streamAt}
 use Rattle.device.specs.Machines.{Machine, machine}
 use Rattle.record.specs.Loads.{deviceAt}
 use Rattle.serve.specs.declared.Served.{Served}

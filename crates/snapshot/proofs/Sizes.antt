@@ -4,14 +4,16 @@ use mathlib.Core.Path.{_≡_, refl, ap, _∙_}
 use mathlib.Core.Bool.{Bool}
 use mathlib.Core.List.{List, _++_}
 use native.Mathlib.Omega.{arith}
-use lib.ListN.{length, drop, length-append, length-drop}
+use lib.ListN.{length, length-append}
 use lib.Seq.{length-take-le}
 use Rattle.word.specs.Parts.{partOf}
+use Rattle.word.proofs.Lists.{length-part}
 use Rattle.stream.specs.declared.Stream.{Stream}
 use Rattle.stream.specs.Streams as stream
 use Rattle.stream.specs.Box.{streams}
+use Rattle.stream.specs.Streams.{listSize}
 use Rattle.device.specs.declared.Hda.{Hda}
-use Rattle.device.specs.Devices.{listSize, streamAt, freshOf}
+use Rattle.device.specs.Devices.{streamAt, freshOf}
 use Rattle.record.specs.Devices.{headOf, numbersOf}
 use Rattle.record.specs.Typed.{Sized}
 use Rattle.record.proofs.Sizes.{length-head, length-numbers}
@@ -40,11 +42,11 @@ module _ (d : Hda) (few : Few d) where
 
 -- with list space for every stream
 module _ (d : Hda) (lists : List ℕ) (k : Kept d lists) where
-  length-part : (i : ℕ) → i < streams → length (partOf listSize i lists) ≡ listSize
-  length-part i h = length-take-le listSize (drop (listSize * i) lists) (omega (arith, k .long, length-drop (listSize * i) lists))
+  part-size : (i : ℕ) → i < streams → length (partOf listSize i lists) ≡ listSize
+  part-size i h = length-part listSize (listSize * i) lists (omega (arith, k .long))
 
   pub part-room : (i : ℕ) → i < streams → 8 * streamAt d i .pending ≤ length (partOf listSize i lists)
-  part-room i h = omega (arith, k .few i h, length-part i h)
+  part-room i h = omega (arith, k .few i h, part-size i h)
 
   length-streams : (n i : ℕ) → i + n ≤ streams → length (streamsOf n i d lists) ≡ sizesOf n i d
   unfolding streamsOf sizesOf

@@ -7,8 +7,9 @@ use lib.ListN.{length, take, drop}
 use Rattle.word.specs.Place.{putAt}
 use Rattle.word.specs.Parts.{partOf}
 use Rattle.stream.specs.Box.{streams}
+use Rattle.stream.specs.Streams.{listSize}
 use Rattle.device.specs.declared.Hda.{Hda}
-use Rattle.device.specs.Devices.{listSize, streamAt}
+use Rattle.device.specs.Devices.{streamAt}
 use Rattle.record.proofs.Puts.{put-then, put-none}
 use Rattle.snapshot.specs.States.{streamOf, streamsOf, sizesOf, Kept}
 use Rattle.snapshot.proofs.Sizes.{length-stream, streams-cons, part-room}

@@ -5,10 +5,10 @@ use mathlib.Core.List.{List, [], _++_}
 use lib.ListN.{length, take}
 use Rattle.word.specs.Parts.{partOf}
 use Rattle.stream.specs.declared.Stream.{Stream}
-use Rattle.stream.specs.Streams.{places}
+use Rattle.stream.specs.Streams.{places, listSize}
 use Rattle.stream.specs.Box.{streams}
 use Rattle.device.specs.declared.Hda.{Hda}
-use Rattle.device.specs.Devices.{listSize, streamAt}
+use Rattle.device.specs.Devices.{streamAt}
 use Rattle.record.specs.Devices.{headOf, numbersOf}
 
 -- a stream's numbers, and 8 bytes for each of its pending positions

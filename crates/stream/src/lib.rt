@@ -3,7 +3,7 @@ ghost use mathlib.Core.Path.{_≡_};
 ghost use Prim.Native.Nat.{_≤_};
 ghost use lib.ListN.{length};
 ghost use Rattle.stream.specs.Box.{captures};
-ghost use Rattle.stream.specs.Streams.{freshOf, validOf};
+ghost use Rattle.stream.specs.Streams.{places, listSize, freshOf, validOf};
 ghost use Rattle.stream.specs.Update.{leftOf, updateOf};
 
 // Streams of the box: the first half captures, the second half plays.
@@ -64,7 +64,7 @@ impl Stream {
     // Whether the stream and its list keep the conditions of document 01's numbers 6, 7 and 8. The count is tested first: the list is
     // read no further than its places.
     pub fn valid(self, list: &[u8]) -> bool
-        requires { ⌜ 34816 ≤ length (now list) ⌝ }
+        requires { ⌜ listSize ≤ length (now list) ⌝ }
         ensures { λ r. ⌜ r ≡ validOf self (now (list .entry)) ⌝ }
     {
         let pending = self.pending as usize;
@@ -85,7 +85,7 @@ impl Stream {
 
     // Moves consumed up to submitted less `latency`, and retires the completions up to it.
     pub fn update(self, list: &mut [u8], latency: u64) -> Updated
-        requires { ⌜ (self .pending ≤ 4352) × (34816 ≤ length (now list)) ⌝ }
+        requires { ⌜ (self .pending ≤ places) × (listSize ≤ length (now list)) ⌝ }
         ensures { λ r. ⌜ leftOf r (now (list .exit)) ≡ updateOf self (now (list .entry)) latency ⌝ }
     {
         let heard = word::difference(self.submitted, latency);

@@ -2,14 +2,16 @@
 use Prim.Native.Nat.{ℕ, zero, suc, _-_, _%_, _≤_, _<_}
 use mathlib.Core.Path.{_≡_, refl, sym, ap, _∙_, subst}
 use mathlib.Core.Bool.{Bool, true, false, cond, true≢false}
-use mathlib.Core.List.{List, _∷_, _++_, append-nil}
+use mathlib.Core.List.{List, _∷_, _++_}
 use native.Mathlib.Omega.{arith}
 use borrow.Author.Tests.{eqb-false}
 use lib.Dec.{leb, eqb}
-use lib.ListN.{length, take, drop, length-replicate, drop-of-length-le}
+use lib.ListN.{length, take, drop, length-replicate}
+use Rattle.word.proofs.Choices.{if-true, if-false}
 use Rattle.gain.specs.Gain.{gainOf, amplifiedOf}
 use Rattle.stream.specs.declared.Stream.{Stream}
 use Rattle.stream.specs.declared.Cyclic.{Cyclic}
+use Rattle.stream.specs.Streams.{period}
 use Rattle.plan.specs.Plans.{readyOf}
 use Rattle.pieces.specs.Pieces.{Out, stateOf, piecesOf}
 use Rattle.queue.specs.declared.Queue.{Queue}
@@ -22,21 +24,15 @@ take-silence (suc n) zero h = absurd (omega arith)
 take-silence (suc n) (suc k) h = ap (λ (l : List ℕ). 0 ∷ l) (take-silence n k (omega arith))
 
 -- the first `count` bytes of a silent period, as the code computes their count
-pub silent-period : (count : ℕ) → count ≤ 1024 → take (count - 0) (silence 1024) ≡ silence count
+pub silent-period : (count : ℕ) → count ≤ period → take (count - 0) (silence period) ≡ silence count
 silent-period count h =
     let e : count - 0 ≡ count = omega arith in
-    ap (λ (n : ℕ). take n (silence 1024)) e ∙ take-silence count 1024 h
+    ap (λ (n : ℕ). take n (silence period)) e ∙ take-silence count period h
 
 pub drop-silence : (n k : ℕ) → drop n (silence k) ≡ silence (k - n)
 drop-silence zero k = let e : k ≡ k - 0 = omega arith in ap silence e
 drop-silence (suc n) zero = let e : 0 ≡ 0 - suc n = omega arith in ap silence e
 drop-silence (suc n) (suc k) = let e : k - n ≡ suc k - suc n = omega arith in drop-silence n k ∙ ap silence e
-
--- a list whose first i bytes were made 0, all of them
-pub all-silent : (l l₀ : List ℕ) (i : ℕ) → i ≡ length l₀ → l ≡ silence i ++ drop i l₀ → l ≡ silence (length l₀)
-all-silent l l₀ i ei e =
-    let over : length l₀ ≤ i = omega arith in
-    e ∙ ap (λ (x : List ℕ). silence i ++ x) (drop-of-length-le l₀ over) ∙ append-nil (silence i) ∙ ap silence ei
 
 pub length-silence : (n : ℕ) → length (silence n) ≡ n
 length-silence n = length-replicate n 0
@@ -68,13 +64,6 @@ module _ (q : Queue) (part pcm : List ℕ) (t : Taken) (e : t ≡ takeIntoOf q p
       let m = takeOf q part (length pcm) in
       ap (λ (x : Taken). x .into) e
       ∙ ap (λ (l : List ℕ). take (m .count) part ++ l) (ap (drop (m .count)) silent ∙ drop-silence (m .count) (length pcm))
-
--- the case that a test chose
-chosen : (b : Bool) (x y : Transfer) → b ≡ true → x ≡ cond b x y
-chosen b x y e = rw e
-
-other : (b : Bool) (x y : Transfer) → b ≡ false → y ≡ cond b x y
-other b x y e = rw e
 
 -- what `captured` leaves: the queue, its part, and the samples
 abbrev pub Captures : Queue → Bool → ℕ → ℕ → List ℕ → ℕ → Queue → List ℕ → List ℕ → Type 0
@@ -111,7 +100,7 @@ module _ (g : Cyclic) (s : Stream) (q : Queue) (connected : Bool) (left right : 
     pub playback-failed : o .ok ≡ false → withPieces o q part ≡ playbackOf g s q connected left right l part m count
     playback-failed z =
         let p = putOf q part (heardOf connected left right (o .state .pcm) count) count in
-        from-pieces (withPieces o q part) (other (o .ok) (withPieces o (p .queue) (p .part)) (withPieces o q part) z)
+        from-pieces (withPieces o q part) (if-false (withPieces o (p .queue) (p .part)) (withPieces o q part) z refl)
 
     pub playback-queued : (pcm′ : List ℕ) (p : Moved) → o .ok ≡ true → length (o .state .pcm) ≡ count → length pcm′ ≡ length (o .state .pcm)
         → pcm′ ≡ heardOf connected left right (o .state .pcm) (length (o .state .pcm)) → p ≡ putOf q part pcm′ (length pcm′)
@@ -121,7 +110,7 @@ module _ (g : Cyclic) (s : Stream) (q : Queue) (connected : Bool) (left right : 
         let put : p ≡ putOf q part (heardOf connected left right (o .state .pcm) count) count
         = ep ∙ ap (putOf q part pcm′) (same ∙ whole) ∙ ap (λ (b : List ℕ). putOf q part b count) heard in
         from-pieces (withPieces o (p .queue) (p .part))
-        (chosen (o .ok) (withPieces o (p .queue) (p .part)) (withPieces o q part) z ∙ ap (λ (x : Moved). queuedOf o x q part) put)
+        (if-true (withPieces o (p .queue) (p .part)) (withPieces o q part) z refl ∙ ap (λ (x : Moved). queuedOf o x q part) put)
 
   pub transfer-unready : readyOf g ≡ false → transferOut false false s q l part m ≡ transferOf g s q connected left right l part m count
   unfolding transferOf
@@ -130,9 +119,9 @@ module _ (g : Cyclic) (s : Stream) (q : Queue) (connected : Bool) (left right : 
   pub transfer-captures : (t : Transfer) → readyOf g ≡ true → g .capture ≡ true → t ≡ captureOf g s q connected left right l part m count
       → t ≡ transferOf g s q connected left right l part m count
   unfolding transferOf
-  transfer-captures t e ec et = rw e (et ∙ chosen (g .capture) (captureOf g s q connected left right l part m count) (playbackOf g s q connected left right l part m count) ec)
+  transfer-captures t e ec et = rw e (et ∙ if-true (captureOf g s q connected left right l part m count) (playbackOf g s q connected left right l part m count) ec refl)
 
   pub transfer-plays : (t : Transfer) → readyOf g ≡ true → g .capture ≡ false → t ≡ playbackOf g s q connected left right l part m count
       → t ≡ transferOf g s q connected left right l part m count
   unfolding transferOf
-  transfer-plays t e ec et = rw e (et ∙ other (g .capture) (captureOf g s q connected left right l part m count) (playbackOf g s q connected left right l part m count) ec)
+  transfer-plays t e ec et = rw e (et ∙ if-false (captureOf g s q connected left right l part m count) (playbackOf g s q connected left right l part m count) ec refl)

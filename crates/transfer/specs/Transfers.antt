@@ -7,6 +7,7 @@ use lib.ListN.{length, take, replicate}
 use Rattle.gain.specs.Gain.{gainOf, amplifiedOf}
 use Rattle.stream.specs.declared.Stream.{Stream}
 use Rattle.stream.specs.declared.Cyclic.{Cyclic}
+use Rattle.stream.specs.Streams.{listSize, period}
 use Rattle.plan.specs.Plans.{readyOf}
 use Rattle.pieces.specs.Pieces.{Out, stateOf, piecesOf}
 use Rattle.queue.specs.declared.Queue.{Queue}
@@ -68,7 +69,7 @@ transferOf g s q connected left right l part m count =
 
 -- what a transfer requires: at most a period, a queue within its capacity, and room for every position and for the queue
 pub record TransferNeeds (q : Queue) (count : ℕ) (list part : List ℕ) : Type 0 where
-  pub short : count ≤ 1024
+  pub short : count ≤ period
   pub queued : q .length ≤ capacity
-  pub long : 34816 ≤ length list
+  pub long : listSize ≤ length list
   pub space : capacity ≤ length part

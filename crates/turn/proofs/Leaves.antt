@@ -6,20 +6,21 @@ use mathlib.Core.List.{List}
 use mathlib.Core.Logic.{_≢_}
 use native.Mathlib.Omega.{arith}
 use lib.Seq.{getD-set-other}
+use Rattle.word.proofs.Choices.{by-cond}
+use Rattle.word.proofs.Lists.{at-set}
 use Rattle.codec.specs.declared.Codec.{Codec}
 use Rattle.stream.specs.declared.Stream.{Stream}
 use Rattle.stream.specs.Streams.{places}
 use Rattle.stream.specs.Box.{captures}
 use Rattle.queue.specs.declared.Queue.{Queue}
 use Rattle.queue.specs.Queues.{capacity, queue, closed}
-use Rattle.queue.proofs.Tests.{by-cond}
 use Rattle.host.specs.declared.Host.{Host}
 use Rattle.host.specs.declared.Opening.{Opening}
 use Rattle.host.specs.Hosts.{openingOf, openOf, failsOf, queueAt, withQueue}
 use Rattle.turn.specs.Engines.{Work}
 use Rattle.turn.specs.Turns.{openStreamOf, Turn, turnOf, TurnNeeds}
 use Rattle.turn.proofs.Rounds.{Within, within}
-use Rattle.turn.proofs.Turns.{set-at, turn-by}
+use Rattle.turn.proofs.Turns.{turn-by}
 
 pub record TurnLeaves (h : Host) (i : ℕ) (t : Turn) : Type 0 where
   pub pending : t .turned .stream .pending ≤ places
@@ -49,7 +50,7 @@ turn-leaves regs codec h microphone i nanos limit s l part m needs =
     (λ (refused : Bool) (h′ : Host) (x : Work) (o : Others h i h′) (w : Within (x .engine .stream) (x .engine .queue) (x .list)).
     record {
       pending = w .0;
-      queued = set-at (λ q. q .length ≤ capacity) (h′ .queues) i (x .engine .queue) closed (w .1) (omega arith);
+      queued = at-set (λ q. q .length ≤ capacity) (h′ .queues) i (x .engine .queue) closed (w .1) (omega arith);
       others = others-put h i h′ (x .engine .queue) o;
     })
     codec h microphone nanos limit s l part m (λ j n. refl) (others-open h microphone i) (needs .pending, needs .queued)

@@ -1,11 +1,12 @@
 -- Openings, that each part of a turn has what it requires, and that what every step keeps a turn keeps. Assumes nothing.
-use Prim.Native.Nat.{ℕ, zero, suc, _≤_}
+use Prim.Native.Nat.{ℕ, _≤_}
 use mathlib.Core.Path.{_≡_}
 use mathlib.Core.Bool.{Bool, true, false, not, _&&_}
-use mathlib.Core.List.{List, [], _∷_}
+use mathlib.Core.List.{List}
 use native.Mathlib.Omega.{arith}
-use lib.ListN.{getD, set}
 use Rattle.word.specs.Place.{wordAt}
+use Rattle.word.proofs.Choices.{by-cond}
+use Rattle.word.proofs.Lists.{at-set}
 use Rattle.format.specs.declared.Format.{Format}
 use Rattle.format.specs.declared.Format.the-variants.{Unsupported, Rate}
 use Rattle.format.specs.Format.{formatOf}
@@ -17,7 +18,6 @@ use Rattle.host.specs.declared.Host.{Host}
 use Rattle.host.specs.declared.Opening.{Opening}
 use Rattle.queue.specs.Queues.{capacity, queue, closed}
 use Rattle.host.specs.Hosts.{openingOf, openOf, failsOf, queueAt, withQueue}
-use Rattle.queue.proofs.Tests.{by-cond}
 use Rattle.registers.specs.Places.{fmt}
 use Rattle.turn.specs.declared.Setup.{Setup}
 use Rattle.turn.specs.declared.Engine.{Engine}
@@ -25,12 +25,6 @@ use Rattle.turn.specs.Setups.{setupOf}
 use Rattle.turn.specs.Engines.{Work, workOf, stoppedOf, servedOf}
 use Rattle.turn.specs.Turns.{openStreamOf, engineOf, Turn, finished, formattedOf, turnOf, WorkNeeds, TurnNeeds}
 use Rattle.turn.proofs.Rounds.{Kept, stopped-keeps, served-keeps}
-
--- what is put in a place stands there, or the place is past the end
-pub set-at : {A : Type 0} (P : A → Type 0) (l : List A) (i : ℕ) (v d : A) → P v → P d → P (getD (set l i v) i d)
-set-at P [] i v d new past = past
-set-at P (x ∷ xs) zero v d new past = new
-set-at P (x ∷ xs) (suc i) v d new past = set-at P xs i v d new past
 
 -- an opened stream's queue is as it was, or empty
 pub open-queue : (h : Host) (microphone : Bool) (i : ℕ) (P : Queue → Type 0) → P (queueAt h i) → ((live : Bool) → P (queue live 0))
@@ -40,7 +34,7 @@ open-queue h microphone i P old empty =
     let Q : Opening → Type 0 = λ o. P (queueAt (o .host) i) in
     by-cond Q (captures i && not microphone) (openingOf true h) (openOf h i) (λ _. old)
     (λ _. by-cond Q (queueAt h i .live) (openingOf true h) _ (λ _. old)
-    (λ _. by-cond Q (failsOf h i) (openingOf false h) (openingOf true (withQueue h i (queue true 0))) (λ _. old) (λ _. set-at P (h .queues) i (queue true 0) closed (empty true) (empty false))))
+    (λ _. by-cond Q (failsOf h i) (openingOf false h) (openingOf true (withQueue h i (queue true 0))) (λ _. old) (λ _. at-set P (h .queues) i (queue true 0) closed (empty true) (empty false))))
 
 pub open-needs : (h : Host) (microphone : Bool) (i limit : ℕ) (s : Stream) (l part : List ℕ) (o : Opening) → o ≡ openStreamOf h microphone i → TurnNeeds h i limit s l part
     → TurnNeeds (o .host) i limit s l part

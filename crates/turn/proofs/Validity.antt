@@ -1,19 +1,18 @@
 -- A valid stream and a valid queue stay valid through a turn, whatever registers, codec, host switches, time and memory are: what document 01's numbers 6 to 9
 -- ask of them. Assumes nothing.
-use Prim.Native.Nat.{ℕ, _*_, _%_, _≤_}
-use mathlib.Core.Path.{_≡_, refl, sym, _∙_}
-use mathlib.Core.Bool.{Bool, true, false, not, _&&_, true≢false}
+use Prim.Native.Nat.{ℕ, _*_, _≤_}
+use mathlib.Core.Path.{_≡_, refl, _∙_}
+use mathlib.Core.Bool.{Bool, true, false, not, _&&_}
 use mathlib.Core.List.{List}
 use native.Mathlib.Omega.{arith}
-use borrow.Author.Tests.{leb-true}
-use lib.Dec.{leb, eqb}
 use lib.ListN.{length}
+use Rattle.word.proofs.Choices.{by-cond}
+use Rattle.word.proofs.Lists.{at-set}
 use Rattle.codec.specs.declared.Codec.{Codec}
 use Rattle.stream.specs.declared.Stream.{Stream}
-use Rattle.stream.specs.declared.Cyclic.{Cyclic}
 use Rattle.stream.specs.Box.{captures}
-use Rattle.stream.specs.Streams.{validOf}
-use Rattle.plan.specs.Plans.{readyOf}
+use Rattle.stream.specs.Streams.{listSize, validOf}
+use Rattle.plan.proofs.Laws.{ready-byte}
 use Rattle.pieces.specs.Pieces.{stateOf}
 use Rattle.pieces.proofs.Facts.{pieces-list-length}
 use Rattle.pieces.proofs.Validity.{pieces-valid}
@@ -24,7 +23,6 @@ use Rattle.host.specs.declared.Opening.{Opening}
 use Rattle.queue.specs.Queues.{queue, closed, validQueue}
 use Rattle.host.specs.Hosts as hosts
 use Rattle.host.specs.Hosts.{queueAt, openingOf, openOf}
-use Rattle.queue.proofs.Tests.{by-cond}
 use Rattle.host.proofs.Checks.{valid-queue}
 use Rattle.queue.proofs.Validity.{put-valid, take-valid}
 use Rattle.host.proofs.Validity.{with-queue-valid, open-valid}
@@ -32,14 +30,7 @@ use Rattle.turn.specs.Engines.{withFraction}
 use Rattle.turn.specs.Turns.{openStreamOf, Turn, turnOf}
 use Rattle.turn.proofs.Facts.{transfer-stream, transfer-queue}
 use Rattle.turn.proofs.Rounds.{Kept}
-use Rattle.turn.proofs.Turns.{set-at, turn-by}
-
--- a ready buffer's last descriptor has a byte's index
-ready-byte : (g : Cyclic) → readyOf g ≡ true → g .lvi ≤ 255
-unfolding readyOf
-ready-byte g =
-    by-cond (λ (b : Bool). b ≡ true → g .lvi ≤ 255) (eqb (g .cbl) 0) false _ (λ _ z. absurd (true≢false (sym z)))
-    (λ _. by-cond (λ (b : Bool). b ≡ true → g .lvi ≤ 255) (eqb (g .cbl % 4) 0) (leb (g .lvi) 255) false (λ _. leb-true (g .lvi) 255) (λ _ z. absurd (true≢false (sym z))))
+use Rattle.turn.proofs.Turns.{turn-by}
 
 -- a list of a size, the stream valid with it, and the queue valid
 pub record Sound (size : ℕ) (s : Stream) (q : Queue) (l : List ℕ) : Type 0 where
@@ -48,7 +39,7 @@ pub record Sound (size : ℕ) (s : Stream) (q : Queue) (l : List ℕ) : Type 0 w
   pub queue : validQueue q ≡ true
 
 -- every step of a turn keeps that
-module _ (size : ℕ) (long : 34816 ≤ size) where
+module _ (size : ℕ) (long : listSize ≤ size) where
   pub sound-kept : Kept (Sound size)
   sound-kept =
       record {
@@ -69,7 +60,7 @@ module _ (size : ℕ) (long : 34816 ≤ size) where
               queue = v .queue;
             };
         moves = λ g s q connected left right l part m n v.
-            let room : 34816 ≤ length l = omega (arith, v .sized) in
+            let room : listSize ≤ length l = omega (arith, v .sized) in
             let moved = transfer-stream g s q connected left right l part m (4 * n) (λ s′ l′. (length l′ ≡ size) × (validOf s′ l′ ≡ true)) (v .sized, v .stream)
             (λ pcm ready. (pieces-list-length g (4 * n) (4 * n) (stateOf s l m pcm 0) room ∙ v .sized, pieces-valid g (4 * n) (ready-byte g ready) (4 * n) (stateOf s l m pcm 0) room (v .stream))) in
             record {
@@ -90,7 +81,7 @@ unfolding openStreamOf
 open-stream-valid h microphone i v =
     by-cond (λ (o : Opening). hosts.validOf (o .host) ≡ true) (captures i && not microphone) (openingOf true h) (openOf h i) (λ _. v) (λ _. open-valid h v i)
 
-module _ (regs : List ℕ) (codec : Codec) (h : Host) (microphone : Bool) (i nanos limit : ℕ) (s : Stream) (l part m : List ℕ) (long : 34816 ≤ length l) (stream : validOf s l ≡ true) where
+module _ (regs : List ℕ) (codec : Codec) (h : Host) (microphone : Bool) (i nanos limit : ℕ) (s : Stream) (l part m : List ℕ) (long : listSize ≤ length l) (stream : validOf s l ≡ true) where
   abbrev after : Turn
   after = turnOf regs codec h microphone i nanos limit s l part m
 
@@ -98,7 +89,7 @@ module _ (regs : List ℕ) (codec : Codec) (h : Host) (microphone : Bool) (i nan
   pub turn-valid : validQueue (queueAt h i) ≡ true → Sound (length l) (after .turned .stream) (queueAt (after .turned .host) i) (after .list)
   turn-valid queue =
       turn-by (Sound (length l)) (sound-kept (length l) long) (λ _. Unit {0}) (λ t. Sound (length l) (t .turned .stream) (queueAt (t .turned .host) i) (t .list)) regs i
-      (λ refused h′ x _ v. record { sized = v .sized; stream = v .stream; queue = set-at (λ q. validQueue q ≡ true) (h′ .queues) i (x .engine .queue) closed (v .queue) refl })
+      (λ refused h′ x _ v. record { sized = v .sized; stream = v .stream; queue = at-set (λ q. validQueue q ≡ true) (h′ .queues) i (x .engine .queue) closed (v .queue) refl })
       codec h microphone nanos limit s l part m tt tt (record { sized = refl; stream = stream; queue = queue })
 
   -- so consumed never passes submitted

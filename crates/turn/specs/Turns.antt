@@ -9,7 +9,7 @@ use Rattle.format.specs.declared.Format.the-variants.{Unsupported, Rate}
 use Rattle.format.specs.Format.{formatOf}
 use Rattle.codec.specs.declared.Codec.{Codec}
 use Rattle.stream.specs.declared.Stream.{Stream}
-use Rattle.stream.specs.Streams.{places}
+use Rattle.stream.specs.Streams.{places, listSize}
 use Rattle.stream.specs.Box.{streams, captures}
 use Rattle.host.specs.declared.Host.{Host}
 use Rattle.host.specs.declared.Opening.{Opening}
@@ -75,7 +75,7 @@ turnOf regs codec h microphone i nanos limit s l part m =
 pub record UpdateNeeds (g : Setup) (s : Stream) (list : List ℕ) : Type 0 where
   pub stream : g .index < streams
   pub pending : s .pending ≤ places
-  pub long : 34816 ≤ length list
+  pub long : listSize ≤ length list
 
 -- what an engine at work requires: a stream of the box, a queue within its limit, and room for every position and for the queue
 pub record WorkNeeds (g : Setup) (e : Engine) (list part : List ℕ) : Type 0 where
@@ -83,7 +83,7 @@ pub record WorkNeeds (g : Setup) (e : Engine) (list part : List ℕ) : Type 0 wh
   pub pending : e .stream .pending ≤ places
   pub queued : e .queue .length ≤ capacity
   pub limited : g .limit ≤ capacity
-  pub long : 34816 ≤ length list
+  pub long : listSize ≤ length list
   pub space : capacity ≤ length part
 
 -- and a turn: a stream of the box whose list and queue are within their limits
@@ -92,5 +92,5 @@ pub record TurnNeeds (h : Host) (i limit : ℕ) (s : Stream) (list part : List �
   pub pending : s .pending ≤ places
   pub queued : queueAt h i .length ≤ capacity
   pub limited : limit ≤ capacity
-  pub long : 34816 ≤ length list
+  pub long : listSize ≤ length list
   pub space : capacity ≤ length part

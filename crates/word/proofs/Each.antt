@@ -23,7 +23,7 @@ module _ {ℓ} {A : Type ℓ} (on : A → Bool) (f : ℕ → A → A) (count i :
   each-end (suc k) x hn h = absurd (omega arith)
 
 -- what each turn of a loop over numbers keeps, the loop keeps, wherever it ends
-by-further : {A : Type 0} (P : A → Type 0) (b : Bool) (y : A) (rest : A → A) → P y → P (rest y) → P (further b y rest)
+pub by-further : {A : Type 0} (P : A → Type 0) (b : Bool) (y : A) (rest : A → A) → P y → P (rest y) → P (further b y rest)
 by-further P true y rest p q = q
 by-further P false y rest p q = p
 

@@ -5,34 +5,31 @@ use mathlib.Core.List.{List, _++_}
 use mathlib.Core.Logic.{_⊎_}
 use native.Mathlib.Omega.{arith}
 use native.Mathlib.Numerals.{add-one}
-use lib.ListN.{length, take, drop, getD, set, length-set, length-drop}
-use lib.Seq.{take-add, drop-drop, length-take-le, drop-cons, set-split}
+use lib.ListN.{length, take, drop, getD, set, length-set}
+use lib.Seq.{take-add, drop-drop, drop-cons, set-split}
 use Rattle.word.specs.Value.{valueOf, bytesOf, Bytes}
 use Rattle.word.specs.Place.{putAt, wordAt, storeAt}
-use Rattle.word.proofs.Lists.{bytes-take, bytes-drop}
+use Rattle.word.proofs.Lists.{length-part, bytes-take, bytes-drop}
 use Rattle.word.proofs.Value.{length-bytes, bytes-bound, value-bound, value-bytes, bytes-value, value-append, bytes-split}
 use Rattle.word.proofs.Put as put
 
 -- of a word within a list
 module _ (n at : ℕ) (l : List ℕ) (fits : at + n ≤ length l) where
-  length-word : length (take n (drop at l)) ≡ n
-  length-word = length-take-le n (drop at l) (omega (arith, length-drop at l))
-
   -- a word is a low part and a high part
   pub word-join : (m : ℕ) → wordAt (n + m) at l ≡ wordAt n at l + 256 ^ n * wordAt m (at + n) l
   unfolding wordAt
   word-join m =
       ap valueOf (take-add n m (drop at l))
       ∙ value-append (take n (drop at l)) (take m (drop n (drop at l)))
-      ∙ rw (length-word, drop-drop n at l)
+      ∙ rw (length-part n at l fits, drop-drop n at l)
 
   pub word-bound : Bytes l → wordAt n at l < 256 ^ n
   unfolding wordAt
-  word-bound h = rw length-word at (value-bound (take n (drop at l)) (bytes-take n (drop at l) (bytes-drop at l h)))
+  word-bound h = rw (length-part n at l fits) at (value-bound (take n (drop at l)) (bytes-take n (drop at l) (bytes-drop at l h)))
 
-  word-bytes : Bytes l → bytesOf n (wordAt n at l) ≡ take n (drop at l)
+  pub word-bytes : Bytes l → bytesOf n (wordAt n at l) ≡ take n (drop at l)
   unfolding wordAt
-  word-bytes h = rw length-word at (bytes-value (take n (drop at l)) (bytes-take n (drop at l) (bytes-drop at l h)))
+  word-bytes h = rw (length-part n at l fits) at (bytes-value (take n (drop at l)) (bytes-take n (drop at l) (bytes-drop at l h)))
 
 -- a store puts the number's bytes
 pub store-put : (n at v : ℕ) (l : List ℕ) → storeAt n at v l ≡ putAt at (bytesOf n v) l

@@ -1,22 +1,27 @@
 -- Laws of bytes put at a place of a list. Assumes nothing.
 use Prim.Native.Nat.{ℕ, _+_, _-_, _≤_, _<_}
 use mathlib.Core.Path.{_≡_, refl, sym, ap, _∙_}
-use mathlib.Core.List.{List, _++_, append-assoc}
+use mathlib.Core.List.{List, [], _∷_, _++_, append-assoc}
 use mathlib.Core.Logic.{_⊎_, inl, inr}
 use native.Mathlib.Omega.{arith}
 use native.Mathlib.Nat.{add-zero}
-use lib.ListN.{length, take, drop, getD, length-append, length-drop, take-append-drop}
-use lib.Seq.{take-append-le, take-take, take-at, drop-at, drop-drop, length-take-le, getD-take, getD-drop}
+use native.Mathlib.Numerals.{add-one}
+use lib.ListN.{length, take, drop, getD, set, length-append, length-drop, take-append-drop}
+use lib.Seq.{set-split, take-append-le, take-take, take-at, drop-at, drop-drop, length-take-le, getD-take, getD-drop}
 use Rattle.word.specs.Value.{Bytes}
 use Rattle.word.specs.Place.{putAt}
-use Rattle.word.proofs.Lists.{drop-take, bytes-take, bytes-drop, bytes-append}
+use Rattle.word.proofs.Lists.{drop-take, length-part, bytes-take, bytes-drop, bytes-append}
 
 -- the bytes that stand there change nothing
 pub put-same : (n at : ℕ) (l : List ℕ) → at + n ≤ length l → putAt at (take n (drop at l)) l ≡ l
 unfolding putAt
 put-same n at l fits =
-    let own : length (take n (drop at l)) ≡ n = length-take-le n (drop at l) (omega (arith, length-drop at l)) in
-    rw (own, ← drop-drop n at l, take-append-drop n (drop at l), take-append-drop at l)
+    rw (length-part n at l fits, ← drop-drop n at l, take-append-drop n (drop at l), take-append-drop at l)
+
+-- a byte stored is put
+pub set-put : (at v : ℕ) (l : List ℕ) → at < length l → set l at v ≡ putAt at (v ∷ []) l
+unfolding putAt
+set-put at v l h = rw (set-split l at v h, add-one)
 
 module _ (at : ℕ) (bs l : List ℕ) (fits : at + length bs ≤ length l) where
   split : putAt at bs l ≡ (take at l ++ bs) ++ drop (at + length bs) l

@@ -6,9 +6,10 @@ use native.Mathlib.Omega.{arith}
 use native.Mathlib.Numerals.{add-one}
 use native.Mathlib.Nat.{add-comm, zero-add}
 use lib.ListN.{length, take, drop, getD, set, length-drop, take-append-drop}
-use lib.Seq.{drop-cons, take-suc, set-at, getD-drop, getD-append-add, length-take-le}
+use lib.Seq.{drop-cons, take-suc, set-at, getD-drop, getD-append-add}
 use Rattle.word.specs.Place.{putAt}
 use Rattle.word.specs.Shift.{shiftOf}
+use Rattle.word.proofs.Lists.{length-part}
 use Rattle.word.proofs.Put.{length-put, put-there, put-after}
 
 -- from the front on, nothing moves
@@ -22,7 +23,7 @@ module _ (from count : ℕ) (l : List ℕ) (fits : from + count ≤ length l) wh
 
   length-moved : length moved ≡ count
   unfolding moved
-  length-moved = length-take-le count (drop from l) (omega (arith, length-drop from l))
+  length-moved = length-part count from l fits
 
   room : 0 + length moved ≤ length l
   room = omega (arith, length-moved)
@@ -51,7 +52,7 @@ unfolding shiftOf
 shift-turn l₀ l from i e h =
     let s : List ℕ = drop from l₀ in
     let hs : i < length (drop from l₀) = omega (arith, length-drop from l₀) in
-    let front : length (take i (drop from l₀)) ≡ i = length-take-le i (drop from l₀) (omega arith) in
+    let front : length (take i (drop from l₀)) ≡ i = length-part i from l₀ (omega arith) in
     let place : length (take i (drop from l₀)) + from ≡ from + i = omega arith in
     let next : getD (shiftOf from i l₀) (from + i) 0 ≡ getD s i 0
     = ap (λ (k : ℕ). getD (shiftOf from i l₀) k 0) (sym place)

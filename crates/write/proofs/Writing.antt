@@ -1,9 +1,10 @@
 -- A guest's write to the registers: its steps, and that none of them raises the count of responses not yet reported. Assumes nothing.
 use Prim.Native.Nat.{ℕ, _≤_}
 use mathlib.Core.Path.{_≡_}
-use mathlib.Core.Bool.{Bool, true, false, cond, not, _&&_}
+use mathlib.Core.Bool.{not, _&&_}
 use mathlib.Core.List.{List}
 use native.Mathlib.Omega.{arith}
+use Rattle.word.proofs.Choices.{chosen}
 use Rattle.registers.specs.Places.{gctl, byteAt, has}
 use Rattle.registers.specs.Writes.{alignOf}
 use Rattle.rings.specs.declared.Link.{Link}
@@ -44,10 +45,6 @@ write-done offset bytes x d p r ed ep er = rw (er, ep, ed)
 abbrev waiting : Ports → ℕ
 waiting x = x .hda .link .responses
 
-either : (t : Bool) (x y : Ports) (n : ℕ) → waiting x ≤ n → waiting y ≤ n → waiting (cond t x y) ≤ n
-either true x y n h k = h
-either false x y n h k = k
-
 written-responses : (d : Hda) (offset : ℕ) (bytes : List ℕ) → writtenOf d offset bytes .link .responses ≤ d .link .responses
 unfolding writtenOf
 written-responses d offset bytes = responses-fall (frontOf (d .regs) (d .link)) offset bytes
@@ -57,7 +54,8 @@ unfolding controlledOf
 controlled-responses old x =
     let before = has 1 (byteAt old gctl) in
     let after = has 1 (byteAt (x .hda .regs) gctl) in
-    either (before && not after) _ _ (waiting x) (reset-responses x) (either (not before && after) _ _ (waiting x) (omega arith) (omega arith))
+    let Within : Ports → Type 0 = λ y. waiting y ≤ waiting x in
+    chosen Within (before && not after) (reset-responses x) (chosen Within (not before && after) (omega arith) (omega arith))
 
 tail-responses : (old : List ℕ) (x : Ports) → waiting (tailOf old x) ≤ waiting x
 unfolding tailOf flushedOf

@@ -1,6 +1,6 @@
 -- `format::supported` meets its contract: its row of tests is the list's.
 -- Assumes nothing.
-use Rattle.format.proofs.Bools.{or-false, or-assoc}
+use mathlib.Core.Bool.{or-false, or-assoc}
 use Rattle.format.proofs.supported.Statement.{statement}
 use Rattle.format.proofs.supported.Tie as tie
 

@@ -3,10 +3,10 @@ use mathlib.Core.Path.{_∙_}
 use native.Mathlib.Omega.{arith}
 use borrow.Author.Tests.{not-true, not-false}
 use borrow.Author.Needs.{needs}
+use Rattle.word.proofs.Choices.{if-true, if-false}
 use Rattle.reader.proofs.Fields.{run-value}
 use Rattle.reader.proofs.Then.{read, ended}
 use Rattle.parse.specs.States.{headNumber}
-use Rattle.parse.proofs.Choices.{chosen, other}
 use Rattle.parse.proofs.head_number.Statement.{statement}
 use Rattle.parse.proofs.head_number.Tie as tie
 
@@ -16,7 +16,7 @@ is-marked-requires c κs = run-value _ _ _ _ (c .before .before .run .ensures) _
 returns : tie.Need-returns
 unfolding headNumber
 returns c =
-    read _ _ (c .before .before .before .before .run .ensures) (c .before .before .enum-told .given .1) (other _ _ (not-true _ (c .if1 .taken)) (c .before .is-marked .ensures))
+    read _ _ (c .before .before .before .before .run .ensures) (c .before .before .enum-told .given .1) (if-false _ _ (not-true _ (c .if1 .taken)) (c .before .is-marked .ensures))
 
 own-number-requires : tie.Need-own-number-requires
 own-number-requires c κs = omega (arith, run-value _ _ _ _ (c .before .before .before .before .run .ensures) _ (c .before .before .enum-told .given .1) .2)
@@ -25,7 +25,7 @@ returns-2 : tie.Need-returns-2
 unfolding headNumber
 returns-2 c =
     read _ _ (c .before .before .before .before .before .run .ensures) (c .before .before .before .enum-told .given .1)
-    (c .own-number .ensures ∙ chosen _ _ (not-false _ (c .before .if1 .left)) (c .before .before .is-marked .ensures))
+    (c .own-number .ensures ∙ if-true _ _ (not-false _ (c .before .if1 .left)) (c .before .before .is-marked .ensures))
 
 returns-3 : tie.Need-returns-3
 unfolding headNumber

@@ -6,8 +6,8 @@ use borrow.Author.Tests.{not-true, not-false}
 use borrow.Author.Needs.{needs}
 use lib.ListN.{length}
 use Rattle.stream.specs.Box.{streams}
+use Rattle.stream.specs.Streams.{listSize}
 use Rattle.queue.specs.Queues.{capacity}
-use Rattle.device.specs.Devices.{listSize}
 use Rattle.record.specs.Loads.{deviceAt}
 use Rattle.device.proofs.Checks.{room, passes, refused-short, refused-device, refused-host}
 use Rattle.read.proofs.check.Statement.{statement}

@@ -4,7 +4,8 @@ use mathlib.Core.Path.{_≡_, refl, sym, _∙_}
 use native.Mathlib.Omega.{arith}
 use borrow.Author.Tests.{not-true, not-false}
 use Rattle.stream.specs.Box.{streams}
-use Rattle.device.specs.Devices.{listSize, streamValid, streamsValid}
+use Rattle.stream.specs.Streams.{listSize}
+use Rattle.device.specs.Devices.{streamValid, streamsValid}
 use Rattle.device.proofs.Scan.{scan-more, scan-stop, scan-end}
 use Rattle.record.specs.Loads.{deviceAt}
 use Rattle.read.proofs.Records.{stream-held}

@@ -3,10 +3,9 @@ use Prim.Native.Nat.{_+_, _-_, _*_}
 use mathlib.Core.Path.{ap}
 use native.Mathlib.Omega.{arith}
 use borrow.Author.Needs.{needs}
-use Rattle.stream.specs.Streams.{freshOf}
+use Rattle.stream.specs.Streams.{listSize, freshOf}
 use Rattle.queue.specs.Queues.{capacity}
 use Rattle.rings.specs.declared.Link.{Link}
-use Rattle.device.specs.Devices.{listSize}
 use Rattle.record.specs.Loads.{deviceAt}
 use Rattle.serve.specs.Serve.{bankOf}
 use Rattle.serve.proofs.Turns.{turn-needs, turn-taken}

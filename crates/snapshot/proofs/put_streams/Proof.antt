@@ -6,9 +6,8 @@ use native.Mathlib.Omega.{arith}
 use borrow.Author.Needs.{needs}
 use lib.ListN.{length}
 use Rattle.word.specs.Place.{putAt}
-use Rattle.stream.specs.Streams.{freshOf}
+use Rattle.stream.specs.Streams.{listSize, freshOf}
 use Rattle.stream.specs.Box.{streams}
-use Rattle.device.specs.Devices.{listSize}
 use Rattle.snapshot.specs.States.{streamsOf, sizesOf, sizeOf}
 use Rattle.snapshot.proofs.Sizes.{part-room, size-bound}
 use Rattle.snapshot.proofs.Turns.{sizes-next, streams-turn, streams-end}

@@ -5,7 +5,7 @@ use mathlib.Core.List.{List, _++_}
 use native.Mathlib.Omega.{arith}
 use borrow.Author.Fill.{fill-more}
 use lib.ListN.{length, set, drop, replicate, length-set}
-use Rattle.rehearse.proofs.Verdicts.{all-erased}
+use Rattle.word.proofs.Lists.{all-filled}
 use Rattle.rehearse.proofs.verdict.erase.Statement.{statement}
 use Rattle.rehearse.proofs.verdict.erase.Tie as tie
 
@@ -39,7 +39,7 @@ same-length c = omega arith
 returns : tie.Need-returns Inv-loop μ-loop
 returns c =
     let l = c .before .loop in
-    all-erased (l .into) (c .before .before .args .into .now) (l .i) (omega arith) (omega arith) (l .inv .0)
+    all-filled 0xee (l .into) (c .before .before .args .into .now) (l .i) (omega arith) (l .inv .0)
 
 pub erase-spec : {M : Type 1} → statement M
 erase-spec =

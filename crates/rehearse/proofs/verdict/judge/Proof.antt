@@ -1,7 +1,8 @@
 -- `judge` is `judgeOf`: the tests of memory and room, then `run` on their parts. Assumes nothing.
+use mathlib.Core.Path.{sym}
 use native.Mathlib.Omega.{arith}
+use lib.Seq.{length-take-le}
 use Rattle.port_device.specs.Calls.{lent}
-use Rattle.rehearse.proofs.Steps.{prefix-length}
 use Rattle.rehearse.proofs.Verdicts.{judge-outside, judge-narrow, judge-done}
 use borrow.Author.Needs.{needs}
 use Rattle.rehearse.proofs.verdict.judge.Statement.{statement}
@@ -24,13 +25,13 @@ slice-relend-prefix-run : tie.Need-slice-relend-prefix-run
 slice-relend-prefix-run c = search needs
 
 slice-aggregate-run : tie.Need-slice-aggregate-run
-slice-aggregate-run c = prefix-length _ _ (omega arith)
+slice-aggregate-run c = sym (length-take-le _ _ (omega arith))
 
 slice-relend-prefix-run-2 : tie.Need-slice-relend-prefix-run-2
 slice-relend-prefix-run-2 c = search needs
 
 slice-aggregate-run-2 : tie.Need-slice-aggregate-run-2
-slice-aggregate-run-2 c = prefix-length _ _ (omega arith)
+slice-aggregate-run-2 c = sym (length-take-le _ _ (omega arith))
 
 run-requires : tie.Need-run-requires
 run-requires c κs = search needs
