@@ -1,18 +1,18 @@
 -- Laws of the verdict on a line: equal texts, and each verdict from what the calls on the way gave. Assumes nothing.
-use Prim.Native.Nat.{ℕ, _-_, _*_, _/_, _%_, _≤_}
+use Prim.Native.Nat.{ℕ, _-_, _*_, _/_, _%_, _≤_, _<_}
 use mathlib.Core.Path.{_≡_, refl, sym, ap, _∙_}
 use mathlib.Core.Bool.{Bool, true, false, cond, false≢true, and-eq-true-iff}
-use mathlib.Core.List.{List, [], _∷_}
+use mathlib.Core.List.{List, [], _∷_, _++_}
 use native.Mathlib.Omega.{arith}
 use lib.Dec.{eqb}
 use lib.ListN.{length, take, drop, getD, length-drop}
 use lib.Seq.{take-all, length-take-le}
-use borrow.Author.Tests.{eq-eqb, ne-eqb, eqb-true}
+use borrow.Author.Tests.{eq-eqb, ne-eqb, eqb-true, le-leb, lt-leb}
 use Rattle.replay.specs.declared.verdict.Verdict.{Verdict}
 use Rattle.replay.specs.declared.verdict.Verdict.the-variants.{Same, Differs, Unreadable}
 use Rattle.replay.specs.Hex.{fromHex, toHex}
 use Rattle.replay.specs.Answers.{Answered, answered, answerOf}
-use Rattle.replay.specs.Verdict.{equal, ownOf, verdictOf, lineVerdictOf}
+use Rattle.replay.specs.Verdict.{equal, ownOf, verdictOf, readable, lineVerdictOf, ownIn}
 
 -- `equal` tells whether two texts are the same
 pub equal-self : (l : List ℕ) → equal l l ≡ true
@@ -58,30 +58,50 @@ module _ (letter : ℕ) (text bytes own : List ℕ) (known : Bool) (after : List
   unfolding verdictOf
   verdict-known same e f = rw (← known-is, e, ← own-is, ← f)
 
--- the verdict on a line
-pub line-empty : (line : List ℕ) → length line ≡ 0 → Unreadable ≡ lineVerdictOf line
-unfolding lineVerdictOf
-line-empty line e = rw (eq-eqb (length line) 0 e)
+-- what a line's length says
+module _ (line : List ℕ) where
+  even-unreadable : length line % 2 ≡ 0 → readable line ≡ false
+  even-unreadable e = rw (ne-eqb (length line % 2) 1 (λ f. omega arith))
 
-pub line-odd : (line : List ℕ) → (length line ≡ 0 → ⊥) → (length line - 1) % 2 ≡ 1 → Unreadable ≡ lineVerdictOf line
-unfolding lineVerdictOf
-line-odd line h e = rw (ne-eqb (length line) 0 h, eq-eqb ((length line - 1) % 2) 1 e)
+  module _ (odd : length line % 2 ≡ 0 → ⊥) where
+    odd-eqb : eqb (length line % 2) 1 ≡ true
+    odd-eqb = eq-eqb (length line % 2) 1 (omega arith)
 
-pub line-record : (line : List ℕ) (v : Verdict) → (length line ≡ 0 → ⊥) → ((length line - 1) % 2 ≡ 1 → ⊥) →
-    v ≡ verdictOf (getD line 0 0) (take (length line - 1) (drop 1 line)) → v ≡ lineVerdictOf line
-unfolding lineVerdictOf
-line-record line v h g e =
-    let all : length (drop 1 line) ≤ length line - 1 = omega (arith, length-drop 1 line) in
-    e ∙ rw (ne-eqb (length line) 0 h, ne-eqb ((length line - 1) % 2) 1 g, take-all (length line - 1) (drop 1 line) all)
+    long-unreadable : 4096 < length line → readable line ≡ false
+    long-unreadable h = rw (odd-eqb, lt-leb (length line) 4096 h)
+
+    odd-readable : length line ≤ 4096 → readable line ≡ true
+    odd-readable h = rw (odd-eqb, le-leb (length line) 4096 h)
+
+-- the verdict on a line, and what is left in the room beside it
+module _ (line room : List ℕ) where
+  unread : readable line ≡ false → (Unreadable ≡ lineVerdictOf line) × (room ≡ ownIn line room)
+  unfolding lineVerdictOf ownIn
+  unread e = (rw e, rw e)
+
+  pub line-even : length line % 2 ≡ 0 → (Unreadable ≡ lineVerdictOf line) × (room ≡ ownIn line room)
+  line-even e = unread (even-unreadable line e)
+
+  pub line-long : (length line % 2 ≡ 0 → ⊥) → 4096 < length line → (Unreadable ≡ lineVerdictOf line) × (room ≡ ownIn line room)
+  line-long odd h = unread (long-unreadable line odd h)
+
+  pub line-record : (length line % 2 ≡ 0 → ⊥) → length line ≤ 4096 → (v : Verdict) (own : List ℕ) →
+      v ≡ verdictOf (getD line 0 0) (take (length line - 1) (drop 1 line)) → own ≡ ownOf (getD line 0 0) (take (length line - 1) (drop 1 line)) →
+      (v ≡ lineVerdictOf line) × (own ++ drop (length line - 1) room ≡ ownIn line room)
+  unfolding lineVerdictOf ownIn
+  line-record odd h v own e f =
+      let all : take (length line - 1) (drop 1 line) ≡ drop 1 line = take-all (length line - 1) (drop 1 line) (omega (arith, length-drop 1 line)) in
+      let read = odd-readable line odd h in
+      (e ∙ rw (read, all), rw (f, read, all))
 
 -- the parts that a line's digits, their bytes and the proved code's digits take up
 pub prefix-length : (n : ℕ) (l : List ℕ) → n ≤ length l → n ≡ length (take n l)
 prefix-length n l h = sym (length-take-le n l h)
 
-pub parts-fit : (line bytes own : List ℕ) → ((length line - 1) % 2 ≡ 1 → ⊥) → length line ≤ length bytes → length line ≤ length own →
+pub parts-fit : (line bytes own : List ℕ) → (length line % 2 ≡ 0 → ⊥) → length line ≤ 4096 → 4096 ≤ length bytes → 4096 ≤ length own →
     (length (take (length line - 1) (drop 1 line)) ≡ 2 * length (take ((length line - 1) / 2) bytes))
     × (length (take (length line - 1) own) ≡ length (take (length line - 1) (drop 1 line)))
-parts-fit line bytes own g h k =
+parts-fit line bytes own odd h k m =
     let text = length-take-le (length line - 1) (drop 1 line) (omega (arith, length-drop 1 line)) in
     let half = length-take-le ((length line - 1) / 2) bytes (omega arith) in
     let all = length-take-le (length line - 1) own (omega arith) in

@@ -1,3 +1,4 @@
 pub mod Hex
 pub mod Answers
 pub mod Verdict
+pub mod Lines

@@ -1,8 +1,8 @@
 -- What is made of a line of the recorded answers.
 use Prim.Native.Nat.{ℕ, _+_, _-_, _%_, _^_}
 use mathlib.Core.Bool.{Bool, true, false, cond, _&&_}
-use mathlib.Core.List.{List, [], _∷_}
-use lib.Dec.{eqb}
+use mathlib.Core.List.{List, [], _∷_, _++_}
+use lib.Dec.{eqb, leb}
 use lib.ListN.{length, drop, getD}
 use Rattle.replay.specs.declared.verdict.Verdict.{Verdict}
 use Rattle.replay.specs.declared.verdict.Verdict.the-variants.{Same, Differs, Unreadable}
@@ -25,12 +25,16 @@ ownOf letter text = toHex (answerOf letter (fromHex text) .bytes)
 unfoldable pub verdictOf : ℕ → List ℕ → Verdict
 verdictOf letter text = cond (answerOf letter (fromHex text) .known) (cond (equal text (ownOf letter text)) Same Differs) Unreadable
 
--- a line: a letter, then the digits, which come in pairs
+-- a line is a letter and then digits in pairs, 4096 bytes at most; an empty one, one with half a pair and a longer one cannot be read
+abbrev pub readable : List ℕ → Bool
+readable line = eqb (length line % 2) 1 && leb (length line) 4096
+
 unfoldable pub lineVerdictOf : List ℕ → Verdict
-lineVerdictOf line =
-    cond (eqb (length line) 0) Unreadable
-    (cond (eqb ((length line - 1) % 2) 1) Unreadable
-    (verdictOf (getD line 0 0) (drop 1 line)))
+lineVerdictOf line = cond (readable line) (verdictOf (getD line 0 0) (drop 1 line)) Unreadable
+
+-- what is left in the room that is lent with a line: at its start the digits as the proved code has them
+unfoldable pub ownIn : List ℕ → List ℕ → List ℕ
+ownIn line room = cond (readable line) (ownOf (getD line 0 0) (drop 1 line) ++ drop (length line - 1) room) room
 
 -- one line more; both counts have 64 bits
 abbrev pub countedOf : Tally → Verdict → Tally

@@ -1,117 +1,77 @@
-// A file's lines, read through one buffer: what is not judged yet stands at its start, and the file is read on behind it.
-ghost use Prim.Native.Nat.{_≤_};
-ghost use lib.ListN.{length};
-use crate::report;
+// The lines of a file's bytes: each is judged and counted, and the first that differ are printed.
+ghost use mathlib.Core.Path.{_≡_};
+ghost use Rattle.replay.specs.Verdict.{lineVerdictOf, countedOf};
+ghost use Rattle.replay.specs.Lines.{tallyOf};
 use crate::verdict;
 use crate::verdict::Tally;
+use crate::verdict::Verdict;
+use libc::STDOUT_FILENO;
 
 // How many lines are printed, at most.
 const MOST_PRINTED: u64 = 10;
 
-// Judges a line, prints it where it differs, and counts it.
-fn judge_one(line: &[u8], tally: Tally) -> Tally
-    requires { ⌜ length (now line) ≤ 4096 ⌝ }
+// All lines, the last one also where no line end follows it.
+pub fn judge_all(all: &[u8]) -> Tally
+    ensures { λ r. ⌜ r ≡ tallyOf (now (all .entry)) ⌝ }
 {
-    let mut bytes = io::buffer();
+    let mut tally = Tally {
+        lines: 0,
+        differ: 0,
+    };
+    let mut start = 0;
+    while start < all.len() {
+        let stop = bytes::scan::find(all, start, all.len(), b'\n');
+        tally = judge_one(&all[start..stop], tally);
+        start = stop + 1;
+    }
+    tally
+}
+
+// One line more, printed if it is among the first that differ.
+fn judge_one(line: &[u8], tally: Tally) -> Tally
+    ensures { λ r. ⌜ r ≡ countedOf tally (lineVerdictOf (now (line .entry))) ⌝ }
+{
     let mut own = io::buffer();
-    let found = verdict::judge_line(line, &mut bytes, &mut own);
+    let found = verdict::judge_line(line, &mut own);
     if tally.differ < MOST_PRINTED {
         let number = std::num::wrapping_add_u64(tally.lines, 1);
-        report::report(number, line, &own, found);
+        report(number, line, &own, found);
     }
     tally.counted(found)
 }
 
-// How far the whole lines of a buffer go, and the count with them.
-struct Judged {
-    end: usize,
-    tally: Tally,
-}
-
-// Judges each line that ends within the first `end` bytes.
-fn judge_whole(buffer: &[u8], end: usize, tally: Tally) -> Judged
-    requires { ⌜ (end ≤ length (now buffer)) × (length (now buffer) ≤ 4096) ⌝ }
-    ensures { λ r. ⌜ r .end ≤ end ⌝ }
-{
-    let mut count = tally;
-    let mut start = 0;
-    let mut stop = bytes::scan::find(buffer, start, end, b'\n');
-    while stop < end {
-        count = judge_one(&buffer[start..stop], count);
-        start = stop + 1;
-        stop = bytes::scan::find(buffer, start, end, b'\n');
-    }
-    Judged {
-        end: start,
-        tally: count,
+// Where a line differs: its number, the line, and the line as the proved code has it.
+fn report(number: u64, line: &[u8], own: &[u8], verdict: Verdict) {
+    match verdict {
+        Verdict::Same => {}
+        Verdict::Differs => {
+            print_line(number, line);
+            print_own(line, own);
+        }
+        Verdict::Unreadable => {
+            print_line(number, line);
+            io::write_all(STDOUT_FILENO, b"cannot be read\n");
+        }
     }
 }
 
-// One read; 0 at the end of the file, where reading fails, and where there is no room.
-fn read(file: i32, room: &mut [u8]) -> usize
-    ensures { λ r. ⌜ r ≤ length (now (room .entry)) ⌝ }
-{
-    let got = libc::read(file, room);
-    io::count(got, room)
+fn print_line(number: u64, line: &[u8]) {
+    io::write_all(STDOUT_FILENO, b"line ");
+    io::print_decimal(STDOUT_FILENO, number);
+    io::write_all(STDOUT_FILENO, b"\n");
+    io::write_all(STDOUT_FILENO, line);
+    io::write_all(STDOUT_FILENO, b"\n");
 }
 
-// Where reading stands: how many bytes wait at the start of the buffer, the count so far, and whether there may be more.
-struct State {
-    waiting: usize,
-    tally: Tally,
-    more: bool,
-}
-
-// Reads once and judges the lines that are whole.
-fn step(file: i32, buffer: &mut [u8], state: State) -> State
-    requires { ⌜ (state .waiting ≤ length (now buffer)) × (length (now buffer) ≤ 4096) ⌝ }
-    ensures { λ r. ⌜ r .waiting ≤ length (now (buffer .entry)) ⌝ }
-{
-    let waiting = state.waiting;
-    let before = state.tally;
-    let got = read(file, &mut buffer[waiting..]);
-    if got == 0 {
-        return State {
-            waiting,
-            tally: before,
-            more: false,
-        };
+// The line's letter and the proved code's digits, which stand at the start of `own`.
+fn print_own(line: &[u8], own: &[u8]) {
+    if line.len() == 0 {
+        return;
     }
-    let end = waiting + got;
-    let judged = judge_whole(buffer, end, before);
-    let start = judged.end;
-    let tally = judged.tally;
-    word::shift(buffer, start, end - start);
-    State {
-        waiting: end - start,
-        tally,
-        more: true,
+    let digits = line.len() - 1;
+    if digits <= own.len() {
+        io::write_all(STDOUT_FILENO, &line[..1]);
+        io::write_all(STDOUT_FILENO, &own[..digits]);
+        io::write_all(STDOUT_FILENO, b"\n");
     }
-}
-
-// All lines of a file, the last one also where no line end follows it. One that does not fit into the buffer ends the run: nothing is read
-// behind it, and it differs. Nothing says that a file ends, so the turns are counted down from a number that no run uses up.
-pub fn judge_all(file: i32, buffer: &mut [u8]) -> Tally
-    requires { ⌜ length (now buffer) ≤ 4096 ⌝ }
-{
-    let none = Tally {
-        lines: 0,
-        differ: 0,
-    };
-    let mut state = State {
-        waiting: 0,
-        tally: none,
-        more: true,
-    };
-    let mut turns = u64::MAX;
-    while turns > 0 && state.more {
-        state = step(file, buffer, state);
-        turns -= 1;
-    }
-    let waiting = state.waiting;
-    let tally = state.tally;
-    if waiting == 0 {
-        return tally;
-    }
-    judge_one(&buffer[..waiting], tally)
 }

@@ -2,7 +2,7 @@
 ghost use mathlib.Core.Path.{_≡_};
 ghost use Prim.Native.Nat.{_*_, _≤_};
 ghost use lib.ListN.{length};
-ghost use Rattle.replay.specs.Verdict.{ownOf, verdictOf, lineVerdictOf, countedOf};
+ghost use Rattle.replay.specs.Verdict.{ownOf, verdictOf, lineVerdictOf, ownIn, countedOf};
 
 pub enum Verdict {
     Same,
@@ -30,20 +30,24 @@ fn judge(letter: u8, text: &[u8], bytes: &mut [u8], own: &mut [u8]) -> Verdict
     }
 }
 
-// A line: a letter, then digits, two to a byte. What `judge` leaves stands at the start of `own`.
-pub fn judge_line(line: &[u8], bytes: &mut [u8], own: &mut [u8]) -> Verdict
-    requires { ⌜ length (now line) ≤ length (now bytes) ⌝ }
-    requires { ⌜ length (now line) ≤ length (now own) ⌝ }
+// The longest line that is read.
+const LONGEST: usize = 4096;
+
+// A line: a letter, then digits, two to a byte, at most `LONGEST` in all. What `judge` leaves stands at the start of `own`.
+pub fn judge_line(line: &[u8], own: &mut [u8]) -> Verdict
+    requires { ⌜ 4096 ≤ length (now own) ⌝ }
     ensures { λ r. ⌜ r ≡ lineVerdictOf (now (line .entry)) ⌝ }
+    ensures { λ _. ⌜ now (own .exit) ≡ ownIn (now (line .entry)) (now (own .entry)) ⌝ }
 {
-    if line.len() == 0 {
+    if line.len() % 2 == 0 {
+        return Verdict::Unreadable;
+    }
+    if line.len() > LONGEST {
         return Verdict::Unreadable;
     }
     let digits = line.len() - 1;
-    if digits % 2 == 1 {
-        return Verdict::Unreadable;
-    }
     let half = digits / 2;
+    let mut bytes = io::buffer();
     judge(line[0], &line[1..], &mut bytes[..half], &mut own[..digits])
 }
 

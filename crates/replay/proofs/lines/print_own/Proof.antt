@@ -2,8 +2,8 @@
 use native.Mathlib.Omega.{arith}
 use borrow.Author.Needs.{needs}
 use Rattle.replay.proofs.Verdicts.{prefix-length}
-use Rattle.replay.proofs.report.print_own.Statement.{statement}
-use Rattle.replay.proofs.report.print_own.Tie as tie
+use Rattle.replay.proofs.lines.print_own.Statement.{statement}
+use Rattle.replay.proofs.lines.print_own.Tie as tie
 
 returns : tie.Need-returns
 returns c = search needs
