@@ -9,7 +9,6 @@ use borrow.Author.Tests.{eq-eqb, ne-eqb}
 use lib.ListN.{length}
 use Rattle.word.specs.Place.{storeAt}
 use Rattle.word.specs.Value.{Bytes}
-use Rattle.clock.specs.declared.Clock.{Clock}
 use Rattle.clock.specs.Clock as clock
 use Rattle.stream.specs.declared.Stream.{Stream}
 use Rattle.stream.specs.Box.{streams}
@@ -28,9 +27,9 @@ use Rattle.record.proofs.Theorems.{device-loaded}
 use Rattle.in_place.specs.declared.Ended.{Ended}
 use Rattle.in_place.specs.Steps.{End, partsOf, endOut, ended, interruptedOf, endOf}
 use Rattle.serve.specs.declared.Served.{Served}
-use Rattle.serve.specs.Serve.{Turns, bankOf, turnsOf, turnsAnswer, serveOf, ServeNeeds}
+use Rattle.serve.specs.Serve.{Turns, bankOf, turnsAnswer, ServeNeeds}
 use Rattle.advance.specs.declared.Advanced.{Advanced}
-use Rattle.advance.specs.Advance.{Left, tickedOf, numberOf, servedOf, stillOf, turnsWhere, leftOut, leftBy, advanced, advancedAs, afterCommands, advanceStep, advanceOf}
+use Rattle.advance.specs.Advance.{tickedOf, numberOf, servedOf, stillOf, turnsWhere, leftOut, leftBy, advanced, advancedAs, afterCommands, advanceStep, advanceOf}
 
 -- ---- parts of the device in a record
 module _ (device : List ℕ) where

@@ -1,6 +1,6 @@
 -- The steps on the parts of a device are those on the device. Assumes nothing.
 use Prim.Native.Nat.{ℕ, _≤_}
-use mathlib.Core.Path.{_≡_, refl, sym, ap, _∙_}
+use mathlib.Core.Path.{_≡_, ap, _∙_}
 use mathlib.Core.Bool.{Bool, true}
 use mathlib.Core.List.{List}
 use Rattle.word.specs.Place.{wordAt}
@@ -10,7 +10,7 @@ use Rattle.rings.specs.Rings.{Rings, ringsOf, restsOf, commandsOf}
 use Rattle.rings.proofs.Laws.{commands-rest}
 use Rattle.rings.proofs.Facts.{commands-few}
 use Rattle.pci.specs.declared.Signal.{Signal}
-use Rattle.pci.specs.Interrupts.{Update, levelOf, updateOut, updateOf}
+use Rattle.pci.specs.Interrupts.{levelOf, updateOut, updateOf}
 use Rattle.device.specs.declared.Hda.{Hda}
 use Rattle.device.specs.Devices.{withLink}
 use Rattle.device.specs.Machines.{commanded, commandedOf, interrupted}

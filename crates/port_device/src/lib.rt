@@ -4,7 +4,6 @@ use device::Answer;
 use fastpath::Quick;
 ghost use mathlib.Core.Path.{_≡_};
 ghost use lib.ListN.{length};
-ghost use Rattle.word.specs.Value.{Bytes};
 ghost use Rattle.record.specs.Layout.{deviceSize};
 ghost use Rattle.host_record.specs.Hosts.{hostSize};
 ghost use Rattle.advance.specs.Advance.{advanceOf};

@@ -16,7 +16,7 @@ ghost use Rattle.stream.specs.Box.{streams};
 ghost use Rattle.device.specs.Devices.{withLink, withClock};
 ghost use Rattle.record.specs.Layout.{latchPlace, deviceSize};
 ghost use Rattle.record.specs.Devices.{flag, linkBytes, headOf, countsOf, numbersOf, streamsBytes, deviceBytes, replacedIn, withStreams};
-ghost use Rattle.record.specs.Loads.{flagAt, isFlagAt, markedOf, blockAt, linkAt, clockAt, streamAt, streamsAt, deviceAt, isDevice, Holds};
+ghost use Rattle.record.specs.Loads.{flagAt, markedOf, blockAt, linkAt, clockAt, streamAt, streamsAt, deviceAt, isDevice, Holds};
 
 // Bytes of a state or a device record before its streams, and of a stream's numbers in it.
 pub const HEAD: usize = 680;

@@ -3,9 +3,8 @@
 ghost use mathlib.Core.Path.{_≡_};
 ghost use mathlib.Core.Bool.{not};
 ghost use Prim.Native.Nat.{_%_};
-ghost use lib.Dec.{eqb};
 ghost use lib.ListN.{length};
-ghost use Rattle.port_device.specs.Calls.{lent, returned, storedOut, made, pausedOf};
+ghost use Rattle.port_device.specs.Calls.{lent, returned, storedOut};
 ghost use Rattle.port_reads.specs.Reads.{shown};
 ghost use Rattle.port_host.specs.Calls.{pulledOut};
 ghost use Rattle.rehearse.specs.Calls.{changeOf, showOf, hostOf, freshOf, memoryOf, noisedOf, pokeOf, reached};

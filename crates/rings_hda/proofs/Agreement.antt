@@ -2,26 +2,26 @@
 use Prim.Native.Nat.{ℕ, suc, _+_, _/_, _%_, _≤_, _<_}
 use mathlib.Core.Path.{_≡_, refl, sym, ap, _∙_}
 use mathlib.Core.Bool.{Bool, true, false, cond, _&&_, false≢true, or-true}
-use mathlib.Core.List.{List, _++_}
-use mathlib.Core.Option.{Option, none, some}
+use mathlib.Core.List.{List}
+use mathlib.Core.Option.{none, some}
 use native.Mathlib.Omega.{arith}
 use native.Mathlib.Nat.{mod-eq-of-lt}
 use borrow.Author.Tests.{eqb-false, ltb-true, ltb-false, lt-ltb, lt-leb, eq-eqb, ne-eqb}
 use lib.Dec.{eqb, leb, ltb}
 use lib.Bits.{bitAnd, bitOr, and-high, or-step, and-step}
-use lib.ListN.{length, getD, replicate, length-set}
+use lib.ListN.{length, getD, length-set}
 use lib.Seq.{getD-set-same, getD-set-other}
-use Rattle.word.specs.Value.{valueOf, bytesOf, Bytes}
+use Rattle.word.specs.Value.{valueOf, Bytes}
 use Rattle.word.specs.Place.{wordAt}
 use Rattle.word.proofs.Choices.{by-test, both, by-value, by-bit}
 use Rattle.word.proofs.Place.{word-bound, word-pair}
 use Rattle.memory.specs.Memory.{readOf, writeOf}
-use Rattle.registers.specs.Places.{corbbase, corbrp, corbwp, corbctl, corbsts, rirbbase, rirbwp, rirbctl, rirbsts, byteAt, has, withBits, dmaOf}
-use Rattle.rings.specs.Rings.{Rings, ringsOf, linkOf, entriesOf, entryAt, countedOf, reportedOf, idleOf, nextResponse, responseOf, currentOf, nextCommand, haltedOf, fetchOf, fetchesOf, runningOf}
+use Rattle.registers.specs.Places.{corbbase, corbrp, corbwp, corbctl, corbsts, rirbbase, rirbctl, rirbsts, byteAt, has, withBits, dmaOf}
+use Rattle.rings.specs.Rings.{Rings, entriesOf, entryAt, countedOf, reportedOf, idleOf, nextResponse, responseOf, currentOf, nextCommand, haltedOf, fetchOf, fetchesOf, runningOf}
 use Rattle.rings_hda.specs.Hda as hda
-use Rattle.rings_hda.specs.Hda.{Next, Rest, Use, Open, bit, sizeOf, sized, entryOf, commandOf, Fetch, Failed, fetched, stored, State}
+use Rattle.rings_hda.specs.Hda.{Next, Rest, Use, Open, bit, sizeOf, sized, entryOf, commandOf, Failed, fetched, stored, State}
 use Rattle.rings_hda.specs.Exceptions.{Exception, None, SizeReserved, PointerOutside, ResetHeld, MemoryError, ResponseOff, ResponseOutside, IdleUnseen, isNone, orElse, ringException, unread, unwritten, commandException, fetchException, responseException, storeException}
-use Rattle.rings_hda.specs.Steps.{ringState, ringsFrom, deviceCommand, readBy, deviceFetch, afterFetch, deviceResponse, stopped, halting, losing, File}
+use Rattle.rings_hda.specs.Steps.{ringState, deviceCommand, deviceFetch, afterFetch, deviceResponse, halting, losing, File}
 
 -- ---- bits
 -- the device's test of a bit is HDA's

@@ -9,7 +9,7 @@ use mathlib.Core.Logic.{_⊎_, inl, inr, ⊎-elim}
 use native.Mathlib.Omega.{arith}
 use native.Mathlib.Nat.{mod-lt, mod-eq-of-lt, mod-self}
 use borrow.Author.Tests.{eqb-false, ltb-true, ltb-false, lt-ltb, eq-eqb, ne-eqb}
-use lib.Dec.{eqb, leb, ltb}
+use lib.Dec.{eqb, ltb}
 use lib.ListN.{length, getD}
 use Rattle.word.specs.Value.{valueOf, Bytes}
 use Rattle.word.specs.Place.{wordAt, storeAt}
@@ -19,12 +19,12 @@ use Rattle.codec.specs.Codecs.{verbOf}
 use Rattle.codec.specs.declared.Codec.{Codec}
 use Rattle.codec.specs.declared.Reply.{Reply}
 use Rattle.codec.specs.declared.Reply.the-variants.{Nothing, Value}
-use Rattle.registers.specs.Places.{corbbase, corbrp, corbwp, corbsize, byteAt, has, dmaOf}
-use Rattle.rings.specs.Rings.{Rings, withRegs, entriesOf, entryAt, answeredOf, currentOf, nextCommand, haltedOf, executedOf, fetchOf, fetchesOf, idleOf, runningOf, commandsOf, responseOf}
+use Rattle.registers.specs.Places.{corbrp, corbwp, corbsize, byteAt, has, dmaOf}
+use Rattle.rings.specs.Rings.{Rings, withRegs, entriesOf, answeredOf, currentOf, nextCommand, haltedOf, executedOf, fetchOf, fetchesOf, idleOf, runningOf, commandsOf, responseOf}
 use Rattle.rings_hda.specs.Hda as hda
-use Rattle.rings_hda.specs.Hda.{Next, Rest, bit, State, Fetch, fetched}
-use Rattle.rings_hda.specs.Exceptions.{Exception, None, IdleUnseen, isNone, commandException, storeException, idleException}
-use Rattle.rings_hda.specs.Steps.{ringState, ringsFrom, deviceCommand, deviceFetch, afterFetch, halting, Run, repliedBy, followed, continued, runOf, landing, hdaFetches, File, Regular}
+use Rattle.rings_hda.specs.Hda.{Next, Rest, bit, Fetch, fetched}
+use Rattle.rings_hda.specs.Exceptions.{None, IdleUnseen, isNone, commandException, storeException, idleException}
+use Rattle.rings_hda.specs.Steps.{ringState, ringsFrom, deviceCommand, deviceFetch, afterFetch, Run, repliedBy, followed, runOf, landing, hdaFetches, File, Regular}
 use Rattle.rings.proofs.Laws.{fetches-end, fetches-rest, fetches-halt, fetches-more, commands-stopped, commands-done}
 use Rattle.rings.proofs.Facts.{Outside, byte-before, word-before, answer-outside, response-codec}
 use Rattle.rings_hda.proofs.Agreement.{run-bit, reset-bit, dma-agrees, entries-some, entries-few, is-none, Inside, none-inside, inside-none, command-agrees, command-silent, read-there, read-word, fetch-agrees, fetch-follows, response-exact, store-silent, idle-agrees, halt-status}

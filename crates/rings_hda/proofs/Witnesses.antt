@@ -1,9 +1,9 @@
 -- No exception is idle: for each a ring state that raises it, of which HDA 1.0a says nothing, or something else, and the device does something.
 use Prim.Native.Nat.{ℕ, _+_}
 use mathlib.Core.Path.{_≡_, refl}
-use mathlib.Core.Bool.{Bool, true, false, not}
+use mathlib.Core.Bool.{true, false}
 use mathlib.Core.List.{List, []}
-use mathlib.Core.Option.{Option, none, some}
+use mathlib.Core.Option.{none, some}
 use lib.ListN.{set, replicate}
 use Rattle.word.specs.Place.{wordAt, storeAt, putAt}
 use Rattle.memory.specs.Memory.{readOf, writeOf}
@@ -12,7 +12,7 @@ use Rattle.codec.specs.Codecs.{freshOf, verbOf}
 use Rattle.registers.specs.Places.{gctl, corbwp, corbrp, corbctl, corbsize, rirbbase, rirbwp, rirbctl, rirbsts, rirbsize, byteAt, dmaOf}
 use Rattle.rings.specs.Rings.{Rings, ringsOf, linkOf, responseOf, fetchesOf, commandsOf}
 use Rattle.rings_hda.specs.Hda as hda
-use Rattle.rings_hda.specs.Hda.{Next, Rest, Use, Open, bit, State, Fetch, Failed}
+use Rattle.rings_hda.specs.Hda.{Next, Rest, Use, Open, bit, State, Failed}
 use Rattle.rings_hda.specs.Exceptions.{Exception, None, SizeReserved, PointerOutside, ResetHeld, MemoryError, ResponseOff, ResponseOutside, IdleUnseen, commandException, fetchException, responseException, storeException, idleException}
 use Rattle.rings_hda.specs.Steps.{ringState, deviceCommand, deviceFetch, deviceResponse, stopped, runOf, landing}
 

@@ -1,7 +1,7 @@
 -- The rings as HDA 1.0a has them (registers 3.3.18 to 3.3.31, use 4.4.1 and 4.4.2): which command is fetched next, where the next response goes, when the engines
 -- stop, and when a status is set. Written from its tables, not from the device.
 use Prim.Native.Nat.{ℕ, _+_, _*_, _/_, _%_}
-use mathlib.Core.Bool.{Bool, true, false, cond, _&&_, _||_}
+use mathlib.Core.Bool.{Bool, false, cond, _&&_, _||_}
 use mathlib.Core.List.{List, _++_}
 use mathlib.Core.Option.{Option, none, some}
 use lib.ListN.{length, getD, set}

@@ -1,24 +1,23 @@
 -- The device's rings in HDA's terms, and whole runs of the command ring as HDA has them: what the theorems of proofs/ speak of.
-use Prim.Native.Nat.{ℕ, zero, suc, _<_}
+use Prim.Native.Nat.{ℕ, zero, suc}
 use mathlib.Core.Path.{_≡_}
-use mathlib.Core.Bool.{Bool, true, false, cond}
+use mathlib.Core.Bool.{true, false, cond}
 use mathlib.Core.List.{List}
 use mathlib.Core.Option.{Option, none, some}
-use lib.Dec.{eqb, leb}
+use lib.Dec.{eqb}
 use lib.Bits.{bitAnd}
 use lib.ListN.{length, getD, set}
 use Rattle.word.specs.Value.{valueOf, Bytes}
 use Rattle.word.specs.Place.{wordAt, storeAt}
-use Rattle.memory.specs.Memory.{readOf, writeOf}
 use Rattle.codec.specs.declared.Codec.{Codec}
 use Rattle.codec.specs.declared.Reply.{Reply}
 use Rattle.codec.specs.declared.Reply.the-variants.{Nothing, Value}
 use Rattle.codec.specs.Codecs.{verbOf}
 use Rattle.registers.specs.Places.{corbbase, corbrp, corbwp, rirbbase, rirbctl, byteAt, has, dmaOf}
 use Rattle.rings.specs.Rings as rings
-use Rattle.rings.specs.Rings.{Rings, ringsOf, linkOf, withRegs, entriesOf, entryAt, answeredOf, currentOf, haltedOf, runningOf}
+use Rattle.rings.specs.Rings.{Rings, ringsOf, linkOf, withRegs, entryAt, answeredOf, currentOf, haltedOf, runningOf}
 use Rattle.rings_hda.specs.Hda as hda
-use Rattle.rings_hda.specs.Hda.{Next, Rest, Use, Open, bit, State, stateOf, Fetch, Resting, Fetched, Failed, Unsaid}
+use Rattle.rings_hda.specs.Hda.{Next, Rest, Use, bit, State, stateOf, Fetch, Resting, Fetched, Failed, Unsaid}
 use Rattle.rings_hda.specs.Exceptions.{None, commandException}
 
 -- the device's rings as HDA's state, and back with a codec

@@ -1,7 +1,6 @@
 -- `advance` meets its contract: refused by the check, time that stands still, or done. Assumes nothing.
 use mathlib.Core.Path.{sym, ap, _∙_}
 use borrow.Author.Needs.{needs}
-use borrow.Author.Tests.{not-true}
 use Rattle.advance.specs.Advance.{leftBy}
 use Rattle.advance.proofs.Outcomes.{advance-refused, advance-on, advance-still, step-needs}
 use Rattle.advance.proofs.advance.Statement.{statement}

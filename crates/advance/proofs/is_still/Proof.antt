@@ -1,6 +1,4 @@
 -- `is_still` meets its contract: the two bytes are the record's. Assumes nothing.
-use Prim.Native.Nat.{_+_}
-use mathlib.Core.Path.{_∙_}
 use native.Mathlib.Omega.{arith}
 use borrow.Author.Needs.{needs}
 use lib.ListN.{drop}

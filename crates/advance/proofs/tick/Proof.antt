@@ -4,8 +4,6 @@ use native.Mathlib.Omega.{arith}
 use borrow.Author.Needs.{needs}
 use Rattle.clock.specs.declared.Clock.{Clock}
 use Rattle.clock.specs.Clock.{advanceOf}
-use Rattle.device.specs.Devices.{withClock}
-use Rattle.record.specs.Loads.{deviceAt, Holds}
 use Rattle.advance.proofs.Outcomes.{clock-there}
 use Rattle.advance.proofs.tick.Statement.{statement}
 use Rattle.advance.proofs.tick.Tie as tie

@@ -5,8 +5,6 @@ use mathlib.Core.Path.{_≡_, refl}
 use native.Mathlib.Omega.{arith}
 use lib.ListN.{length, length-set}
 use Rattle.replay.proofs.Records.{Repeating, repeat-none, repeat-more, repeat-all}
-use Rattle.replay.proofs.answers.repeat.Reads as reads
-use Rattle.replay.proofs.answers.repeat.Lts as lts
 use Rattle.replay.proofs.answers.repeat.Statement.{statement}
 use Rattle.replay.proofs.answers.repeat.Tie as tie
 

@@ -6,9 +6,6 @@ use native.Mathlib.Omega.{arith}
 use lib.ListN.{length, take, drop, length-set}
 use Rattle.replay.specs.Hex.{fromHex}
 use Rattle.replay.proofs.Digits.{decode-step, decode-end}
-use Rattle.replay.proofs.hex.decode.Reads as reads
-use Rattle.replay.proofs.hex.decode.Lts as lts
-use Rattle.replay.proofs.hex.pair.Reads as pair-reads
 use Rattle.replay.proofs.hex.decode.Statement.{statement}
 use Rattle.replay.proofs.hex.decode.Tie as tie
 

@@ -6,9 +6,6 @@ use native.Mathlib.Omega.{arith}
 use lib.ListN.{length, take, drop, length-set}
 use Rattle.replay.specs.Hex.{toHex}
 use Rattle.replay.proofs.Digits.{encode-step, encode-end}
-use Rattle.replay.proofs.hex.encode.Reads as reads
-use Rattle.replay.proofs.hex.encode.Lts as lts
-use Rattle.replay.proofs.hex.digit.Reads as digit-reads
 use Rattle.replay.proofs.hex.encode.Statement.{statement}
 use Rattle.replay.proofs.hex.encode.Tie as tie
 
