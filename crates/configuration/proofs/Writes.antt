@@ -11,6 +11,7 @@ use lib.ListN.{length, drop, getD, set, drop-of-length-le}
 use lib.Seq.{drop-cons}
 use borrow.Author.Tests.{eqb-true}
 use Rattle.word.proofs.Choices.{by-either, by-first}
+use Rattle.registers.specs.Reads.{within}
 use Rattle.registers.proofs.Tests.{within-true}
 use Rattle.configuration.specs.Configuration.{replaced, writeByteOf, writeOf}
 
@@ -19,14 +20,16 @@ use Rattle.configuration.specs.Configuration.{replaced, writeByteOf, wri
 abbrev Inside : ℕ → Type 0
 Inside a = (4 ≤ a) × (a < 256)
 
+inside-within : (a from to : ℕ) → 4 ≤ from → to ≤ 256 → within from to a ≡ true → Inside a
+inside-within a from to low high h = let t = within-true from to a h in (omega arith, omega arith)
+
 inside-one : (a at : ℕ) → Inside at → eqb a at ≡ true → Inside a
 inside-one a at i h = let e = eqb-true a at h in (omega arith, omega arith)
 
 inside-replaced : (a : ℕ) → replaced a ≡ true → Inside a
-inside-replaced a h =
-    by-either _ _ h
-    (λ g. by-either _ _ g (λ w. let t = within-true 0x10 0x14 a w in (omega arith, omega arith)) (inside-one a 0x3c (omega arith, omega arith)))
-    (λ w. let t = within-true 0x64 0x6e a w in (omega arith, omega arith))
+inside-replaced a =
+    by-either _ _ (by-either _ _ (inside-within a _ _ (omega arith) (omega arith)) (inside-one a _ (omega arith, omega arith)))
+    (inside-within a _ _ (omega arith) (omega arith))
 
 -- what holds of the configuration, and of each with such a byte changed, holds after a byte's write
 pub byte-by : (P : List ℕ → Type 0) (config : List ℕ) (a b : ℕ) → P config → ((v : ℕ) → 4 ≤ a → a < 256 → (b < 256 → v < 256) → P (set config a v))

@@ -69,9 +69,10 @@ module _ (p : ℕ → Bool) where
   on-list : (x : ℕ) (ys : List ℕ) → T (every p ys) → among x ys ≡ true → T (p x)
   on-list x [] t h = absurd (true≢false (sym h))
   on-list x (y ∷ ys) t h =
-      by-either (eqb x y) (among x ys) h
+      by-either (eqb x y) (among x ys)
       (λ e. rw (eqb-true x y e) (and-l (p y) (every p ys) t))
       (λ m. on-list x ys (and-r (p y) (every p ys) t) m)
+      h
 
   abbrev holds : Format → Bool
   holds Unsupported = true

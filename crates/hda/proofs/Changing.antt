@@ -59,7 +59,7 @@ module _ (d : Hda) (memory : List ℕ) (node : ℕ) where
 -- only pins 3 and 5 listen, which are nodes of the codec
 pub listening-node : (d : Hda) (node : ℕ) → listens d node ≡ true → node < 6
 listening-node d node e =
-    by-either (eqb node 3) (eqb node 5) (left _ _ e) (λ t. omega (arith, eqb-true node 3 t)) (λ t. omega (arith, eqb-true node 5 t))
+    by-either (eqb node 3) (eqb node 5) (λ t. omega (arith, eqb-true node 3 t)) (λ t. omega (arith, eqb-true node 5 t)) (left _ _ e)
 
 -- no one listens, or the pin's response goes out
 module _ (node : ℕ) (x : Machine) where

@@ -28,9 +28,10 @@ among k (j ∷ js) = eqb k j || among k js
 missed-from : (known : Type 0) (ks : List ℕ) (x : ℕ) → Missed known ks x → (k : ℕ) → among k ks ≡ true → eqb x k ≡ false
 missed-from known [] x m k t = cc
 missed-from known (j ∷ js) x m k t =
-    by-either (eqb k j) (among k js) t
+    by-either (eqb k j) (among k js)
     (λ e. ne-eqb x k (λ p. missed-known (known × (x ≡ j → ⊥)) js x m .1 (p ∙ eqb-true k j e)))
     (λ e. missed-from (known × (x ≡ j → ⊥)) js x m k e)
+    t
 
 -- so each test of `x` against one of them fails
 pub missed : (ks : List ℕ) (x : ℕ) → Missed Unit ks x → (k : ℕ) → among k ks ≡ true → eqb x k ≡ false

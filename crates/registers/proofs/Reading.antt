@@ -18,8 +18,8 @@ use Rattle.registers.proofs.Tests.{within-true}
 -- an alias is of a byte of the file
 pub alias-near : (a : ℕ) → aliased a ≡ true → (0x2000 ≤ a) × (a - 0x2000 < size)
 unfolding aliased
-alias-near a h =
-    by-either _ _ h
+alias-near a =
+    by-either _ _
     (λ w. let n = within-true 0x2030 0x2034 a w in (omega arith, omega arith))
     (λ w.
     let b = both _ _ w in

@@ -14,9 +14,9 @@ by-test true f g = f refl
 by-test false f g = g refl
 
 -- one of two tests holds, where not both fail
-pub by-either : {A : Type 0} (a b : Bool) → a || b ≡ true → (a ≡ true → A) → (b ≡ true → A) → A
-by-either true b h f g = f refl
-by-either false b h f g = g h
+pub by-either : {A : Type 0} (a b : Bool) → (a ≡ true → A) → (b ≡ true → A) → a || b ≡ true → A
+by-either true b f g h = f refl
+by-either false b f g h = g h
 
 -- two tests that fail together
 pub neither : (a b : Bool) → a || b ≡ false → (a ≡ false) × (b ≡ false)
