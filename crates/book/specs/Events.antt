@@ -10,7 +10,6 @@ use Rattle.word.specs.Each.{eachOf, always}
 use Rattle.format.specs.declared.Format.{Format}
 use Rattle.format.specs.declared.Format.the-variants.{Unsupported, Rate}
 use Rattle.format.specs.Format.{formatOf}
-use Rattle.gain.specs.declared.Gain.{Gain}
 use Rattle.codec.specs.declared.Codec.{Codec}
 use Rattle.positions.specs.Positions.{positionsOf}
 use Rattle.stream.specs.declared.Stream.{Stream}
@@ -74,7 +73,7 @@ piecesEvents (suc fuel) g count x =
     againPieces (ltb (x .done) count) (planEvents (planOf g (x .stream) (x .memory) (count - x .done))) (pieceOf g count x) (piecesEvents fuel g count)
 
 -- the samples that a transfer starts with, as `captureOf` and `playbackOf` have them
-abbrev pub samplesOf : Cyclic → Queue → Bool → Gain → Gain → List ℕ → ℕ → List ℕ
+abbrev pub samplesOf : Cyclic → Queue → Bool → ℕ → ℕ → List ℕ → ℕ → List ℕ
 samplesOf g q connected left right part count =
     cond (g .capture) (capturedOf connected left right part (takenOf connected q part count) count) (silence count)
 

@@ -5,6 +5,7 @@ use mathlib.Core.Bool.{false, not, _||_}
 use mathlib.Core.List.{List}
 use native.Mathlib.Omega.{arith}
 use lib.ListN.{length}
+use Rattle.word.proofs.Lists.{length-part}
 use Rattle.word.specs.Parts.{partOf}
 use Rattle.word.proofs.Choices.{by-cond}
 use Rattle.word.proofs.Each.{each-keeps-until}
@@ -24,7 +25,6 @@ use Rattle.device.proofs.Checks.{device-parts}
 use Rattle.device.proofs.Facts.{with-stream-valid}
 use Rattle.settle.specs.Settle.{ports}
 use Rattle.serve.specs.Serve.{runs, Turns, turnsOf, takenOf, turnAt, goesOn, serveOf}
-use Rattle.serve.proofs.Turns.{length-part}
 use Rattle.advance.specs.Advance.{tickedOf, numberOf, afterCommands, advanceStep, advanceOf}
 use Rattle.calls.proofs.Turns.{turn-file}
 use Rattle.calls.proofs.Devices.{Holds, device-changed, with-file, part-size, commanded-holds, Stands, Leaves, unchanged-leaves, finished-leaves, checked-leaves, commanded-stands}
@@ -52,7 +52,7 @@ module _ (nanos : ℕ) where
       let t : Turn = turnOf (d .regs) (d .link .codec) (x .host) (d .microphone) i nanos capacity (streamAt d i) l q (x .memory) in
       let long : length l ≡ listSize = part-size (x .lists) (s .lists) i few in
       let fits : capacity * i + capacity ≤ length (x .queues) = omega (arith, s .queues) in
-      let wide : length q ≡ capacity = length-part capacity i capacity (x .queues) fits in
+      let wide : length q ≡ capacity = length-part capacity (capacity * i) (x .queues) fits in
       let room : listSize ≤ length l = omega arith in
       let stream = device-parts d (x .lists) (h .device) .streams i few in
       let queue = valid-queue (x .host) (h .host) i in

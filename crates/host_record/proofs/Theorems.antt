@@ -8,6 +8,7 @@ use native.Mathlib.Nat.{zero-add}
 use borrow.Author.Tests.{eqb-true, eq-eqb}
 use lib.Dec.{eqb}
 use lib.ListN.{length, drop, drop-of-length-le}
+use Rattle.word.proofs.Place.{word-bytes}
 use Rattle.word.specs.Value.{Bytes}
 use Rattle.word.specs.Place.{wordAt}
 use Rattle.word.proofs.Choices.{left, right}
@@ -19,7 +20,7 @@ use Rattle.host.specs.Hosts as hosts
 use Rattle.record.specs.Devices.{flag}
 use Rattle.record.specs.Loads.{flagAt, isFlagAt}
 use Rattle.record.specs.Typed.{Fits}
-use Rattle.record.proofs.Places.{part-further, word-there, byte-there, flag-value, flag-small, join-run, join-flag, word-bytes, row-at, row-list, row-same, runs-there, runs-join}
+use Rattle.record.proofs.Places.{part-further, word-there, byte-there, flag-value, flag-small, join-run, join-flag, row-at, row-list, row-same, runs-there, runs-join}
 use Rattle.host_record.specs.Hosts.{queuePlace, hostSize, queueBytes, queuesBytes, hostBytes, queueAt, queuesAt, hostAt, queuesFlagged, isHost}
 use Rattle.host_record.specs.Typed.{TypedHost}
 use Rattle.host_record.proofs.Scan.{flagged-each, flagged-all}
@@ -34,7 +35,7 @@ module _ (b : List ℕ) (at : ℕ) where
   join-queue : Bytes b → isFlagAt at b ≡ true → (next : ℕ) (rest : List ℕ) → next ≡ at + 5 → next ≤ length b → rest ≡ drop next b
       → queueBytes (queueAt at b) ++ rest ≡ drop at b
   join-queue h f next rest p fits r =
-      join-flag b at _ (omega arith) f (join-run b 4 (at + 1) next _ rest (word-bytes b h 4 (at + 1) (omega arith)) (omega arith) r)
+      join-flag b at _ (omega arith) f (join-run b 4 (at + 1) next _ rest (word-bytes 4 (at + 1) b (omega arith) h) (omega arith) r)
 
 -- ---- a host end's bytes
 module _ (h : Host) where
@@ -110,4 +111,4 @@ module _ (b : List ℕ) (r : isHost b ≡ true) (bytes : Bytes b) where
   host-loaded =
       join-flag b 0 _ (omega (arith, size)) (parts .1)
       (join-flag b 1 _ (omega (arith, size)) (parts .2)
-      (join-run b 4 2 6 _ _ (word-bytes b bytes 4 2 (omega (arith, size))) refl (sym (append-nil _) ∙ join-queues)))
+      (join-run b 4 2 6 _ _ (word-bytes 4 2 b (omega (arith, size)) bytes) refl (sym (append-nil _) ∙ join-queues)))

@@ -10,6 +10,7 @@ use lib.Seq.{take-at, drop-at, length-take-le}
 use Rattle.word.specs.Value.{bytesOf, Bytes}
 use Rattle.word.specs.Place.{putAt, storeAt}
 use Rattle.word.proofs.Value.{length-bytes}
+use Rattle.word.proofs.Put.{set-put}
 use Rattle.word.proofs.Place.{store-put, word-bound}
 use Rattle.clock.specs.declared.Clock.{Clock}
 use Rattle.codec.specs.declared.Codec.{Codec}
@@ -28,7 +29,6 @@ use Rattle.record.specs.Rows.{rowOf}
 use Rattle.record.specs.Devices.{mark, flag, headOf, streamsBytes, deviceBytes, replacedIn, withStreams}
 use Rattle.record.specs.Loads.{streamAt, deviceAt, isDevice, Holds}
 use Rattle.record.specs.Typed.{Fits, Sized, TypedStream, TypedDevice}
-use Rattle.record.proofs.Puts.{set-put}
 use Rattle.record.proofs.Sizes.{length-head, length-streams, length-device}
 use Rattle.record.proofs.Places.{row-at}
 use Rattle.record.proofs.Theorems.{tailOf, timesOf, regrouped, device-stored, device-record, device-loaded}

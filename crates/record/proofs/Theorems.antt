@@ -9,6 +9,7 @@ use borrow.Author.Tests.{eqb-true, eq-eqb}
 use lib.Dec.{eqb}
 use lib.ListN.{length, take, drop, getD, drop-of-length-le}
 use lib.Seq.{drop-drop}
+use Rattle.word.proofs.Place.{word-bytes}
 use Rattle.word.specs.Value.{bytesOf, Bytes}
 use Rattle.word.specs.Place.{putAt, wordAt}
 use Rattle.word.proofs.Choices.{left, right}
@@ -26,7 +27,7 @@ use Rattle.record.specs.Layout.{latchPlace, deviceSize}
 use Rattle.record.specs.Devices.{mark, flag, headOf, numbersOf, streamsBytes, deviceBytes}
 use Rattle.record.specs.Loads.{flagAt, isFlagAt, markedOf, streamAt, streamsAt, deviceAt, isDevice}
 use Rattle.record.specs.Typed.{Sized, TypedStream, TypedDevice}
-use Rattle.record.proofs.Places.{run-there, run-after, part-further, word-there, byte-there, flag-value, flag-small, join-run, join-byte, join-flag, row-at, word-bytes, runs-there, runs-join, row-same, row-list}
+use Rattle.record.proofs.Places.{run-there, run-after, part-further, word-there, byte-there, flag-value, flag-small, join-run, join-byte, join-flag, row-at, runs-there, runs-join, row-same, row-list}
 use Rattle.record.proofs.Sizes.{length-numbers, length-streams, length-device}
 
 -- ---- parts
@@ -48,7 +49,7 @@ module _ (b : List ℕ) (at : ℕ) where
     join-numbers : (next : ℕ) (rest : List ℕ) → next ≡ at + 34 → next ≤ length b → rest ≡ drop next b → numbersOf (streamAt at b) ++ rest ≡ drop at b
     unfolding numbersOf
     join-numbers next rest p fits r =
-        let word : (n k : ℕ) → k + n ≤ length b → bytesOf n (wordAt n k b) ≡ take n (drop k b) = word-bytes b h in
+        let word : (n k : ℕ) → k + n ≤ length b → bytesOf n (wordAt n k b) ≡ take n (drop k b) = λ n k fits. word-bytes n k b fits h in
         simp append-assoc
         (join-run b 2 at (at + 2) _ _ (word 2 at (omega arith)) refl
         (join-run b 4 (at + 2) (at + 6) _ _ (word 4 (at + 2) (omega arith)) (omega arith)
@@ -213,9 +214,9 @@ module _ (b : List ℕ) (r : isDevice b ≡ true) (h : Bytes b) where
   join-times : timesOf (deviceAt b) ≡ drop 662 b
   unfolding deviceAt
   join-times =
-      join-run b 8 662 670 _ _ (word-bytes b h 8 662 (omega (arith, size))) refl
-      (join-run b 8 670 678 _ _ (word-bytes b h 8 670 (omega (arith, size))) refl
-      (join-run b 2 678 680 _ _ (word-bytes b h 2 678 (omega (arith, size))) refl join-streams))
+      join-run b 8 662 670 _ _ (word-bytes 8 662 b (omega (arith, size)) h) refl
+      (join-run b 8 670 678 _ _ (word-bytes 8 670 b (omega (arith, size)) h) refl
+      (join-run b 2 678 680 _ _ (word-bytes 2 678 b (omega (arith, size)) h) refl join-streams))
 
   join-files : filesOf (deviceAt b) ≡ drop 6 b
   unfolding deviceAt

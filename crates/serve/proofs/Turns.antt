@@ -7,8 +7,8 @@ use mathlib.Core.List.{List, [], _∷_, _++_}
 use native.Mathlib.Omega.{arith}
 use borrow.Author.Tests.{eqb-true, eqb-false}
 use lib.Dec.{eqb}
-use lib.ListN.{length, take, drop, getD, set, length-drop}
-use lib.Seq.{length-take-le}
+use lib.ListN.{length, take, drop, getD, set}
+use Rattle.word.proofs.Lists.{length-part}
 use Rattle.word.specs.Each.{eachOf}
 use Rattle.word.proofs.Choices.{by-cond}
 use Rattle.word.proofs.Each.{each-step, each-stop}
@@ -36,10 +36,6 @@ set-keeps P (x ∷ l) zero (suc j) v d p h = h
 set-keeps P (x ∷ l) (suc i) zero v d p h = h
 set-keeps P (x ∷ l) (suc i) (suc j) v d p h = set-keeps P l i j v d p h
 
--- a part that the space has room for is whole
-pub length-part : (size i j : ℕ) (space : List ℕ) → size * i + j ≤ length space → length (take j (drop (size * i) space)) ≡ j
-length-part size i j space h = length-take-le j (drop (size * i) space) (omega (arith, length-drop (size * i) space))
-
 -- what stream i's turn requires; `j` and `k` are the lengths of the lent parts, as the code computes them
 pub turn-needs : (x : Machine) (i j k : ℕ) → ServeNeeds x → i < streams → j ≡ listSize → k ≡ capacity
     → TurnNeeds (x .host) i capacity (streamAt (x .hda) i) (take j (drop (listSize * i) (x .lists))) (take k (drop (capacity * i) (x .queues)))
@@ -49,8 +45,8 @@ turn-needs x i j k needs few ej ek =
       pending = needs .pending i few;
       queued = needs .queued i few;
       limited = omega arith;
-      long = omega (arith, length-part listSize i j (x .lists) (omega (arith, needs .lists)));
-      space = omega (arith, length-part capacity i k (x .queues) (omega (arith, needs .queues)));
+      long = omega (arith, length-part j (listSize * i) (x .lists) (omega (arith, needs .lists)));
+      space = omega (arith, length-part k (capacity * i) (x .queues) (omega (arith, needs .queues)));
     }
 
 module _ (nanos i : ℕ) (d : Hda) (h : Host) (l q m : List ℕ) where
