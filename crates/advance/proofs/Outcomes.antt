@@ -18,7 +18,7 @@ use Rattle.rings.specs.declared.Link.{Link}
 use Rattle.pci.specs.declared.Msi.the-variants.{None}
 use Rattle.device.specs.declared.Hda.{Hda}
 use Rattle.device.specs.Devices.{withClock}
-use Rattle.device.specs.Machines.{Commanded, Machine, machine, checkOf, answerOf, finishOf, commanded, commandedOf}
+use Rattle.device.specs.Machines.{Commanded, Machine, machine, checkOf, answerOf, finishOf, commanded, withCommanded, commandedOf}
 use Rattle.device.proofs.Checks.{passed}
 use Rattle.device.proofs.Facts.{commanded-streams}
 use Rattle.record.specs.Devices.{deviceBytes, withStreams}
@@ -119,7 +119,7 @@ module _ (nanos : ℕ) (device : List ℕ) (h : Host) (l q m config regs : List 
 
     pub step-on : stillOf d ≡ false → afterCommands nanos (machine (partsOf device₂ config regs₂) h l q m₂) ≡ advanceStep nanos (machine d h l q m)
     unfolding advanceStep
-    step-on z = rw (z, ← commands-ran)
+    step-on z = rw z (ap (λ (k : Commanded). afterCommands nanos (withCommanded (machine d h l q m) h k)) commands-ran)
 
     -- neither touches the streams
     same-streams : partsOf device₂ config regs₂ .streams ≡ d .streams
