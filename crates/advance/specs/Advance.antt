@@ -7,13 +7,11 @@ use Rattle.word.specs.Place.{storeAt}
 use Rattle.clock.specs.declared.Clock.{Clock}
 use Rattle.clock.specs.Clock as clock
 use Rattle.registers.specs.Places.{gctl, walclk, byteAt, has, dmaOf}
-use Rattle.pci.specs.declared.Msi.{Msi}
-use Rattle.host.specs.declared.Host.{Host}
 use Rattle.device.specs.declared.Hda.{Hda}
 use Rattle.device.specs.declared.Answer.{Answer}
 use Rattle.device.specs.Devices.{withRegs, withClock}
-use Rattle.device.specs.Machines.{Machine, Done, unchanged, checked, finished, withCommanded, commandedOf}
-use Rattle.record.specs.Devices.{deviceBytes}
+use Rattle.device.specs.Machines.{Machine, Done, doneOf, unchanged, checked, finished, withCommanded, commandedOf}
+use Rattle.record.specs.Loads.{deviceAt}
 use Rattle.serve.specs.Serve.{Turns, turnsOf, serveOf}
 use Rattle.advance.specs.declared.Advanced.{Advanced}
 
@@ -49,26 +47,13 @@ unfoldable pub advanceOf : ℕ → Machine → Done
 advanceOf nanos x = checked (advanceStep nanos) x
 
 -- ---- on a device in its record
--- what the call leaves: its answer, the record, the lent spaces and guest memory
-pub record Left : Type 0 where
-  pub advanced : Advanced
-  pub device : List ℕ
-  pub lists : List ℕ
-  pub queues : List ℕ
-  pub memory : List ℕ
+-- the code's answer with the device that stands there, and all that a call leaves
+abbrev pub answerIn : Advanced → List ℕ → Answer
+answerIn a device = record { number = a .number; level = a .level; msi = a .msi; hda = deviceAt device; host = a .host }
 
-abbrev pub leftOut : Advanced → List ℕ → List ℕ → List ℕ → List ℕ → Left
-leftOut a device lists queues memory = record { advanced = a; device = device; lists = lists; queues = queues; memory = memory }
+abbrev pub doneIn : Advanced → List ℕ → List ℕ → List ℕ → List ℕ → Done
+doneIn a device lists queues memory = doneOf (answerIn a device) lists queues memory
 
-abbrev pub advanced : ℕ → Bool → Msi → Host → Advanced
-advanced number level msi h = record { number = number; level = level; msi = msi; host = h }
-
-abbrev pub advancedAs : Answer → Advanced
-advancedAs a = advanced (a .number) (a .level) (a .msi) (a .host)
-
-abbrev pub leftBy : Done → Left
-leftBy z = leftOut (advancedAs (z .answer)) (deviceBytes (z .answer .hda)) (z .lists) (z .queues) (z .memory)
-
--- the streams' turns where DMA may run
-abbrev pub turnsWhere : Bool → ℕ → Machine → Turns
-turnsWhere dma nanos x = cond dma (serveOf nanos x) (turnsOf false x)
+-- the streams' turns alone
+abbrev pub turnsWhere : ℕ → Machine → Turns
+turnsWhere nanos x = cond (dmaOf (x .hda .config) (x .hda .regs)) (serveOf nanos x) (turnsOf false x)

@@ -48,8 +48,8 @@ fn replaces(a: usize) -> bool
 }
 
 // The byte at `a`, as far as it can be written.
-fn write_byte(config: &mut Config, a: usize, b: u8)
-    requires { ⌜ a < 256 ⌝ }
+fn write_byte(config: &mut [u8], a: usize, b: u8)
+    requires { ⌜ (256 ≤ length (now config)) × (a < 256) ⌝ }
     ensures { λ _. ⌜ now (config .exit) ≡ writeByteOf (now (config .entry)) a b ⌝ }
 {
     if replaces(a) {
@@ -69,8 +69,9 @@ fn write_byte(config: &mut Config, a: usize, b: u8)
     }
 }
 
-// The bytes in order from address `start` on.
-pub fn write(config: &mut Config, start: u64, bytes: &[u8])
+// The bytes in order from address `start` on, of a configuration that stands in a slice.
+pub fn write_in(config: &mut [u8], start: u64, bytes: &[u8])
+    requires { ⌜ 256 ≤ length (now config) ⌝ }
     ensures { λ _. ⌜ now (config .exit) ≡ writeOf (now (config .entry)) start (now (bytes .entry)) ⌝ }
 {
     let mut a = start as usize;
@@ -84,4 +85,11 @@ pub fn write(config: &mut Config, start: u64, bytes: &[u8])
         a += 1;
         i += 1;
     }
+}
+
+// The same for a field of a struct, which is lent as `&mut Config` and cannot be as a slice.
+pub fn write(config: &mut Config, start: u64, bytes: &[u8])
+    ensures { λ _. ⌜ now (config .exit) ≡ writeOf (now (config .entry)) start (now (bytes .entry)) ⌝ }
+{
+    write_in(config, start, bytes)
 }

@@ -4,6 +4,7 @@ use mathlib.Core.Path.{_≡_, refl, sym, ap, _∙_}
 use mathlib.Core.Bool.{true, false}
 use mathlib.Core.List.{List}
 use mathlib.Core.Logic.{_≢_}
+use native.Mathlib.Omega.{arith}
 use borrow.Author.Tests.{eq-eqb, ne-eqb, lt-ltb, le-ltb}
 use lib.ListN.{length}
 use Rattle.rings.specs.declared.Link.{Link}
@@ -11,30 +12,22 @@ use Rattle.bus.specs.Bus.{Front, frontOf, plainWrite, bytesOf}
 use Rattle.configuration.specs.Configuration as pci
 use Rattle.host.specs.declared.Host.{Host}
 use Rattle.device.specs.declared.Hda.{Hda}
-use Rattle.device.specs.Devices.{withRegs, withLink}
+use Rattle.device.specs.Devices.{withConfig, withRegs, withLink}
 use Rattle.device.specs.Machines.{Machine, machine, checkMachine, answerOf, finishOf}
 use Rattle.settle.specs.Settle.{ports}
 use Rattle.write.specs.Writes.{writtenOf, tailedOf, writeStep, writeOf}
 use Rattle.write.proofs.Checked.{few}
 use Rattle.hda.specs.Calls.{configured, configWriteStep, configWriteOf}
-use Rattle.record.specs.Loads.{blockAt, linkAt, deviceAt}
-use Rattle.in_place.specs.Steps.{partsOf, endOf}
+use Rattle.record.specs.Loads.{blockAt, linkAt, deviceAt, Holds}
+use Rattle.in_place.specs.Ends.{endOf}
 use Rattle.fastpath.specs.declared.Quick.{Quick}
-use Rattle.fastpath.specs.Quick.{leftAlone, Tried, tried, carriedOut, quietOf, writeBy, configWriteBy, alignedOf, Concluded, concluded, concludedOf}
+use Rattle.fastpath.specs.Quick.{leftAlone, Tried, tried, carriedOut, quietOf, writeBy, configWriteBy, alignedOf, concludedOf}
 use Rattle.fastpath.proofs.Quiet.{quiet-tail}
 
 -- what the commands and the interrupt leave is all of the call
-abbrev triedOf : Concluded → Tried
-triedOf c = tried (c .quick) (c .device) (c .memory)
-
-tailed : (x : Machine) (d : Hda) → triedOf (concludedOf d (x .memory)) ≡ carriedOut (tailedOf x (ports d (x .host)))
+tailed : (x : Machine) (d : Hda) → concludedOf d (x .memory) ≡ carriedOut (tailedOf x (ports d (x .host)))
 unfolding concludedOf endOf finishOf answerOf
 tailed x d = refl
-
--- the configuration of the device in a record
-config-of : (b : List ℕ) → blockAt 6 b ≡ deviceAt b .config
-unfolding deviceAt
-config-of b = refl
 
 module _ (device lists queues memory : List ℕ) (host : Host) where
   abbrev at : Machine
@@ -66,27 +59,26 @@ module _ (device lists queues memory : List ℕ) (host : Host) where
         unfolding deviceAt
         same-quiet = rw (eo, written)
 
-        pub write-few : linkAt device .responses ≤ 255
-        unfolding deviceAt
-        write-few = few at n e z
-
         pub write-left : quietOf old regs ≡ false → (q : Quick) → q ≡ leftAlone → tried q device memory ≡ writeBy offset bytes device at
         unfolding writeBy
         write-left t q eq = rw (eq, ← e, eq-eqb n 0 z, plain, ← same-quiet, t)
 
-        parts : (config : List ℕ) → config ≡ blockAt 6 device → partsOf device config regs ≡ writtenOf (deviceAt device) offset bytes
-        unfolding writtenOf
-        parts config ec = rw (ec, config-of device) (ap (λ (f : Front). withLink (withRegs (deviceAt device) (f .regs)) (f .link)) front)
+        -- the registers put into the record
+        module _ (device₁ : List ℕ) (held : Holds device₁ (withRegs (deviceAt device) regs)) where
+          put : deviceAt device₁ ≡ writtenOf (deviceAt device) offset bytes
+          unfolding writtenOf
+          put = held .same ∙ ap (λ (f : Front). withLink (withRegs (deviceAt device) (f .regs)) (f .link)) front
 
-        pub write-done : quietOf old regs ≡ true → (config : List ℕ) → config ≡ blockAt 6 device → (q : Quick) (device₁ memory₁ config₁ regs₁ : List ℕ)
-            → concluded q device₁ memory₁ config₁ regs₁ ≡ concludedOf (partsOf device config regs) memory
-            → tried q device₁ memory₁ ≡ writeBy offset bytes device at
-        unfolding writeBy writeOf writeStep
-        write-done t config ec q device₁ memory₁ config₁ regs₁ ez =
-            let d : Hda = writtenOf (deviceAt device) offset bytes in
-            let quiet : quietOf (deviceAt device .regs) (d .regs) ≡ true = sym same-quiet ∙ t in
-            rw (← e, eq-eqb n 0 z, plain, quiet, quiet-tail (deviceAt device .regs) (ports d host) quiet)
-            (ap triedOf (ez ∙ ap (λ (y : Hda). concludedOf y memory) (parts config ec)) ∙ tailed at d)
+          pub write-few : linkAt device₁ .responses ≤ 255
+          unfolding deviceAt
+          write-few = let same : linkAt device₁ .responses ≡ linkAt device .responses = ap (λ (y : Hda). y .link .responses) (held .same) in omega (arith, same, few at n e z)
+
+          pub write-done : quietOf old regs ≡ true → (y : Tried) → y ≡ concludedOf (deviceAt device₁) memory → y ≡ writeBy offset bytes device at
+          unfolding writeBy writeOf writeStep
+          write-done t y ey =
+              let d : Hda = writtenOf (deviceAt device) offset bytes in
+              let quiet : quietOf (deviceAt device .regs) (d .regs) ≡ true = sym same-quiet ∙ t in
+              rw (← e, eq-eqb n 0 z, plain, quiet, quiet-tail (deviceAt device .regs) (ports d host) quiet) (ey ∙ ap (λ (x : Hda). concludedOf x memory) put ∙ tailed at d)
 
     module _ (register offset : ℕ) (bytes : List ℕ) where
       pub config-refused : n ≢ 0 → (q : Quick) → q ≡ leftAlone → tried q device memory ≡ configWriteBy register offset bytes device at
@@ -98,16 +90,15 @@ module _ (device lists queues memory : List ℕ) (host : Host) where
         unfolding configWriteBy
         config-past h q eq = rw (eq, ← e, eq-eqb n 0 z, le-ltb (4 * register + offset) (2 ^ 64) h)
 
-        pub config-few : linkAt device .responses ≤ 255
-        unfolding deviceAt
-        config-few = few at n e z
+        -- the configuration written in the record
+        module _ (config device₁ : List ℕ) (ec : config ≡ pci.writeOf (blockAt 6 device) (4 * register + offset) bytes) (held : Holds device₁ (withConfig (deviceAt device) config)) where
+          pub config-few : linkAt device₁ .responses ≤ 255
+          unfolding deviceAt
+          config-few = let same : linkAt device₁ .responses ≡ linkAt device .responses = ap (λ (y : Hda). y .link .responses) (held .same) in omega (arith, same, few at n e z)
 
-        pub config-done : 4 * register + offset < 2 ^ 64 → (old config regs : List ℕ) → old ≡ blockAt 6 device → config ≡ pci.writeOf old (4 * register + offset) bytes
-            → regs ≡ blockAt 262 device → (q : Quick) (device₁ memory₁ config₁ regs₁ : List ℕ)
-            → concluded q device₁ memory₁ config₁ regs₁ ≡ concludedOf (partsOf device config regs) memory
-            → tried q device₁ memory₁ ≡ configWriteBy register offset bytes device at
-        unfolding configWriteBy configWriteOf configWriteStep deviceAt
-        config-done h old config regs eo ec er q device₁ memory₁ config₁ regs₁ ez =
-            let d : Hda = configured (deviceAt device) (4 * register + offset) bytes in
-            let whole : partsOf device config regs ≡ d = rw (ec, eo, er) in
-            rw (← e, eq-eqb n 0 z, lt-ltb (4 * register + offset) (2 ^ 64) h) (ap triedOf (ez ∙ ap (λ (y : Hda). concludedOf y memory) whole) ∙ tailed at d)
+          pub config-done : 4 * register + offset < 2 ^ 64 → (y : Tried) → y ≡ concludedOf (deviceAt device₁) memory → y ≡ configWriteBy register offset bytes device at
+          unfolding configWriteBy configWriteOf configWriteStep deviceAt
+          config-done h y ey =
+              let d : Hda = configured (deviceAt device) (4 * register + offset) bytes in
+              let put : deviceAt device₁ ≡ d = held .same ∙ ap (withConfig (deviceAt device)) ec in
+              rw (← e, eq-eqb n 0 z, lt-ltb (4 * register + offset) (2 ^ 64) h) (ey ∙ ap (λ (x : Hda). concludedOf x memory) put ∙ tailed at d)

@@ -15,7 +15,7 @@ use Rattle.device.specs.Machines.{Machine, Done, checkMachine, Commanded, comma
 use Rattle.write.specs.Writes.{writtenOf, writeOf}
 use Rattle.hda.specs.Calls.{configWriteOf}
 use Rattle.record.specs.Devices.{deviceBytes}
-use Rattle.in_place.specs.Steps.{End, endOf}
+use Rattle.in_place.specs.Ends.{End, endOf}
 use Rattle.fastpath.specs.declared.Quick.{Quick}
 
 abbrev pub quick : Bool → Bool → Msi → Quick
@@ -65,22 +65,12 @@ configWriteBy register offset bytes device x =
 abbrev pub alignedOf : Front → Front
 alignedOf x = frontOf (alignOf (x .regs)) (x .link)
 
--- the commands and the interrupt: what is answered, and the record, guest memory and both files after them
-pub record Concluded : Type 0 where
-  pub quick : Quick
-  pub device : List ℕ
-  pub memory : List ℕ
-  pub config : List ℕ
-  pub regs : List ℕ
+-- the commands and the interrupt
+abbrev pub endedBy : List ℕ → End → Tried
+endedBy memory e = tried (quick true (e .ended .level) (e .ended .msi)) (deviceBytes (e .hda)) memory
 
-abbrev pub concluded : Quick → List ℕ → List ℕ → List ℕ → List ℕ → Concluded
-concluded q device memory config regs = record { quick = q; device = device; memory = memory; config = config; regs = regs }
-
-abbrev pub endedBy : List ℕ → End → Concluded
-endedBy memory e = concluded (quick true (e .ended .level) (e .ended .msi)) (e .device) memory (e .config) (e .regs)
-
-abbrev pub commandedBy : Commanded → Concluded
+abbrev pub commandedBy : Commanded → Tried
 commandedBy c = endedBy (c .memory) (endOf (c .hda))
 
-unfoldable pub concludedOf : Hda → List ℕ → Concluded
+unfoldable pub concludedOf : Hda → List ℕ → Tried
 concludedOf d memory = commandedBy (commandedOf d memory)

@@ -1,6 +1,5 @@
 // The fast path of a guest's writes, where the device stands in its record. A write that resets, starts and stops nothing, and is no immediate command, changes the two
-// files and the message latch alone, but for commands that wait: the files are taken out of the record and put back. Any other is left to the calls on the whole device.
-use configuration::Config;
+// files and the message latch alone, but for commands that wait. Any other is left to the calls on the whole device.
 use host::Host;
 use pci::Msi;
 use registers::Registers;
@@ -15,8 +14,7 @@ ghost use Rattle.bus.specs.Bus.{frontOf, plainWrite, bytesOf};
 ghost use Rattle.device.specs.Machines.{machine};
 ghost use Rattle.record.specs.Layout.{deviceSize};
 ghost use Rattle.record.specs.Loads.{linkAt, deviceAt, isDevice};
-ghost use Rattle.in_place.specs.Steps.{partsOf};
-ghost use Rattle.fastpath.specs.Quick.{staysOf, stayFrom, quietOf, leftAlone, tried, concluded, concludedOf, alignedOf, writeBy, configWriteBy};
+ghost use Rattle.fastpath.specs.Quick.{staysOf, stayFrom, quietOf, leftAlone, tried, concludedOf, alignedOf, writeBy, configWriteBy};
 
 // Whether a write was carried out, and then the INTx level that it leaves and its message.
 pub struct Quick {
@@ -82,18 +80,13 @@ fn written(regs: &mut Registers, offset: u64, bytes: &[u8])
     registers::align(regs);
 }
 
-// The commands and the interrupt, and the files into the record.
-fn conclude(
-    device: &mut [u8],
-    config: &mut Config,
-    regs: &mut Registers,
-    memory: &mut [u8],
-) -> Quick
+// The commands and the interrupt.
+fn conclude(device: &mut [u8], memory: &mut [u8]) -> Quick
     requires { ⌜ (length (now device) ≡ deviceSize) × (isDevice (now device) ≡ true) × (linkAt (now device) .responses ≤ 255) ⌝ }
-    ensures { λ r. ⌜ concluded r (now (device .exit)) (now (memory .exit)) (now (config .exit)) (now (regs .exit)) ≡ concludedOf (partsOf (now (device .entry)) (now (config .entry)) (now (regs .entry))) (now (memory .entry)) ⌝ }
+    ensures { λ r. ⌜ tried r (now (device .exit)) (now (memory .exit)) ≡ concludedOf (deviceAt (now (device .entry))) (now (memory .entry)) ⌝ }
 {
-    in_place::commands(device, config, regs, memory);
-    let ended = in_place::finish(device, config, regs);
+    in_place::commands(device, memory);
+    let ended = in_place::finish(device);
     let msi = ended.msi;
     Quick {
         done: true,
@@ -127,8 +120,8 @@ pub fn write(
     if !is_quiet(&old, &regs) {
         return left_alone();
     }
-    let mut config = record::load_block(device, 6);
-    conclude(device, &mut config, &mut regs, memory)
+    record::replace_registers(device, &regs);
+    conclude(device, memory)
 }
 
 // A write to the configuration, from byte `offset` of a register on.
@@ -155,8 +148,6 @@ pub fn config_write(
     if offset > 0xffff_ffff_ffff_ffff - 4 * register {
         return left_alone();
     }
-    let mut config = record::load_block(device, 6);
-    configuration::write(&mut config, 4 * register + offset, bytes);
-    let mut regs = record::load_block(device, 262);
-    conclude(device, &mut config, &mut regs, memory)
+    configuration::write_in(&mut device[6..262], 4 * register + offset, bytes);
+    conclude(device, memory)
 }

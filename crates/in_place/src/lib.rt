@@ -1,16 +1,14 @@
-// The steps that calls share, where the device stands in its record and its two files are out of it: the commands that wait, and the end of a call. Crate device has
-// them for a device by value; the definitions are the same.
-use configuration::Config;
+// The steps that calls share, where the device stands in its record: the commands that wait, and the end of a call. Crate device has them for a device by value; the
+// definitions are the same.
 use pci::Msi;
-use registers::Registers;
 ghost use mathlib.Core.Path.{_≡_};
 ghost use mathlib.Core.Bool.{true};
 ghost use Prim.Native.Nat.{_≤_};
 ghost use lib.ListN.{length};
 ghost use Rattle.device.specs.Machines.{commanded, commandedOf};
 ghost use Rattle.record.specs.Layout.{deviceSize};
-ghost use Rattle.record.specs.Loads.{linkAt, deviceAt, isDevice, Holds};
-ghost use Rattle.in_place.specs.Steps.{partsOf, endOut, interruptedOf, endOf};
+ghost use Rattle.record.specs.Loads.{linkAt, deviceAt, isDevice};
+ghost use Rattle.in_place.specs.Ends.{endOut, endOf};
 
 // What a call leaves of the interrupt: the INTx level, and a message to send.
 pub struct Ended {
@@ -18,32 +16,37 @@ pub struct Ended {
     pub level: bool,
 }
 
-// Every command that waits. The codec is taken out of the record only where there is something to do.
-pub fn commands(device: &mut [u8], config: &Config, regs: &mut Registers, memory: &mut [u8])
+// Every command that waits. Registers and codec are taken out of the record only where there is something to do.
+pub fn commands(device: &mut [u8], memory: &mut [u8])
     requires { ⌜ (length (now device) ≡ deviceSize) × (isDevice (now device) ≡ true) × (linkAt (now device) .responses ≤ 255) ⌝ }
-    ensures { λ _. ⌜ commanded (partsOf (now (device .exit)) (now (config .entry)) (now (regs .exit))) (now (memory .exit)) ≡ commandedOf (partsOf (now (device .entry)) (now (config .entry)) (now (regs .entry))) (now (memory .entry)) ⌝ }
-    ensures { λ _. ⌜ (isDevice (now (device .exit)) ≡ true) × (deviceAt (now (device .exit)) .config ≡ deviceAt (now (device .entry)) .config) ⌝ }
+    ensures { λ _. ⌜ commanded (deviceAt (now (device .exit))) (now (memory .exit)) ≡ commandedOf (deviceAt (now (device .entry))) (now (memory .entry)) ⌝ }
+    ensures { λ _. ⌜ isDevice (now (device .exit)) ≡ true ⌝ }
 {
-    let dma = registers::dma_enabled(config, regs);
+    let dma = registers::dma_enabled_in(&device[6..262], &device[262..518]);
     let responses = word::get16(device, 678);
-    if rings::rests(dma, regs, responses as u32) {
+    if rings::rests(dma, &device[262..518], responses as u32) {
         return;
     }
-    let next = rings::commands(dma, regs, record::load_link(device), memory);
+    let mut regs = record::load_block(device, 262);
+    let next = rings::commands(dma, &mut regs, record::load_link(device), memory);
     record::replace_link(device, next);
+    record::replace_registers(device, &regs);
 }
 
-// The interrupt brought up to date, and the files into the record.
-pub fn finish(device: &mut [u8], config: &mut Config, regs: &mut Registers) -> Ended
+// The interrupt brought up to date.
+pub fn finish(device: &mut [u8]) -> Ended
     requires { ⌜ (length (now device) ≡ deviceSize) × (isDevice (now device) ≡ true) ⌝ }
-    ensures { λ r. ⌜ endOut r (now (device .exit)) (now (config .exit)) (now (regs .exit)) ≡ endOf (partsOf (now (device .entry)) (now (config .entry)) (now (regs .entry))) ⌝ }
-    ensures { λ _. ⌜ Holds (now (device .exit)) (interruptedOf (partsOf (now (device .entry)) (now (config .entry)) (now (regs .entry)))) ⌝ }
+    ensures { λ r. ⌜ endOut r (deviceAt (now (device .exit))) ≡ endOf (deviceAt (now (device .entry))) ⌝ }
+    ensures { λ _. ⌜ isDevice (now (device .exit)) ≡ true ⌝ }
 {
-    let signal = pci::update_irq(config, regs, record::is_asserted(device));
-    record::replace_files(device, config, regs, signal.asserted);
-    let msi = signal.msi;
+    let asserted = record::is_asserted(device);
+    let now = pci::interrupt_of(&device[6..262], &device[262..518], asserted);
+    pci::show(&mut device[6..262], now.shown);
+    word::put32(&mut device[262..518], registers::INTSTS, now.status);
+    record::replace_latch(device, now.asserted);
+    let msi = now.msi;
     Ended {
-        level: pci::level(config, regs),
+        level: now.level,
         msi: msi,
     }
 }

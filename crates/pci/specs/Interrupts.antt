@@ -10,6 +10,7 @@ use Rattle.stream.specs.Box.{streams}
 use Rattle.registers.specs.Places.{wakeen, statests, intctl, intsts, corbctl, corbsts, rirbctl, rirbsts, ctl, sts, byteAt, has, withBits, keepBits}
 use Rattle.pci.specs.declared.Msi.{Msi}
 use Rattle.pci.specs.declared.Msi.the-variants.{None, Message}
+use Rattle.pci.specs.declared.Interrupt.{Interrupt}
 use Rattle.pci.specs.declared.Signal.{Signal}
 
 -- an enabled status: the rings' memory error, response and overrun, and a codec's state change
@@ -46,18 +47,6 @@ messages config = has 1 (byteAt config 0x62)
 unfoldable pub levelOf : List ℕ → List ℕ → Bool
 levelOf config regs = pendingOf regs && (not (messages config) && not (has 4 (byteAt config 0x05)))
 
--- all that an update leaves
-pub record Update : Type 0 where
-  pub config : List ℕ
-  pub regs : List ℕ
-  pub signal : Signal
-
-abbrev pub updateOut : List ℕ → List ℕ → Signal → Update
-updateOut config regs signal = record { config = config; regs = regs; signal = signal }
-
-abbrev pub signalOf : Bool → Msi → Signal
-signalOf asserted msi = record { asserted = asserted; msi = msi }
-
 -- the messages that a case stands for, as address and data: none, or one
 pub record Sent : Type 0 where
   pub address : ℕ
@@ -71,11 +60,37 @@ sentOf (Message a d) = record { address = a; value = d } ∷ []
 abbrev pub messageOf : List ℕ → Msi
 messageOf config = Message (wordAt 8 0x64 config) (wordAt 2 0x6c config)
 
--- Global status is recomputed, the interrupt status bit of the configuration follows where no message is used, and a message is sent when an interrupt is
--- pending that was not asserted before.
-unfoldable pub updateOf : List ℕ → List ℕ → Bool → Update
-updateOf config regs asserted =
+-- What the files say of the interrupt, where a message was `asserted` before or not: one is sent when an interrupt is pending that goes as a message and was not.
+abbrev pub interruptOf : List ℕ → List ℕ → Bool → Interrupt
+interruptOf config regs asserted =
     let pending = pendingOf regs in
     let message = messages config in
-    updateOut (cond (pending && not message) (withBits 0x06 8 config) (keepBits 0x06 0xf7 config)) (storeAt 4 intsts (statusOf regs) regs)
-    (signalOf (pending && message) (cond (pending && message && not asserted) (messageOf config) None))
+    record {
+      status = statusOf regs;
+      shown = pending && not message;
+      asserted = pending && message;
+      level = levelOf config regs;
+      msi = cond (pending && message && not asserted) (messageOf config) None;
+    }
+
+-- the interrupt status bit of the configuration
+abbrev pub shownOf : Bool → List ℕ → List ℕ
+shownOf on config = cond on (withBits 0x06 8 config) (keepBits 0x06 0xf7 config)
+
+-- all that an update leaves
+pub record Update : Type 0 where
+  pub config : List ℕ
+  pub regs : List ℕ
+  pub signal : Signal
+
+abbrev pub updateOut : List ℕ → List ℕ → Signal → Update
+updateOut config regs signal = record { config = config; regs = regs; signal = signal }
+
+abbrev pub signalOf : Bool → Msi → Signal
+signalOf asserted msi = record { asserted = asserted; msi = msi }
+
+-- Global status is recomputed, and the interrupt status bit of the configuration follows where no message is used.
+unfoldable pub updateOf : List ℕ → List ℕ → Bool → Update
+updateOf config regs asserted =
+    let i = interruptOf config regs asserted in
+    updateOut (shownOf (i .shown) config) (storeAt 4 intsts (i .status) regs) (signalOf (i .asserted) (i .msi))

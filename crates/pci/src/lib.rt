@@ -6,13 +6,22 @@ ghost use mathlib.Core.Bool.{cond};
 ghost use Prim.Native.Nat.{_+_, _^_, _≤_, _<_};
 ghost use lib.ListN.{length};
 ghost use Rattle.stream.specs.Box.{streams};
-ghost use Rattle.registers.specs.Places.{size, withBits, keepBits};
-ghost use Rattle.pci.specs.Interrupts.{controllerOf, streamOf, sourcesOf, statusOf, pendingBy, messages, levelOf, messageOf, updateOut, updateOf};
+ghost use Rattle.registers.specs.Places.{size};
+ghost use Rattle.pci.specs.Interrupts.{controllerOf, streamOf, sourcesOf, statusOf, pendingBy, messages, levelOf, messageOf, shownOf, interruptOf, updateOut, updateOf};
 
 // A message of the interrupt, or none.
 pub enum Msi {
     None,
     Message { address: u64, value: u32 },
+}
+
+// What the files say of the interrupt: global status, whether the configuration shows a line, whether a message is asserted, the INTx level, and the message to send.
+pub struct Interrupt {
+    pub msi: Msi,
+    pub status: u32,
+    pub shown: bool,
+    pub asserted: bool,
+    pub level: bool,
 }
 
 // What an update of the interrupt answers: whether a message interrupt is asserted, and the message to send.
@@ -127,8 +136,9 @@ pub fn level(config: &Config, regs: &Registers) -> bool
 }
 
 // The interrupt status bit of the configuration.
-fn show(config: &mut Config, on: bool)
-    ensures { λ _. ⌜ now (config .exit) ≡ cond on (withBits 0x06 8 (now (config .entry))) (keepBits 0x06 0xf7 (now (config .entry))) ⌝ }
+pub fn show(config: &mut [u8], on: bool)
+    requires { ⌜ 256 ≤ length (now config) ⌝ }
+    ensures { λ _. ⌜ now (config .exit) ≡ shownOf on (now (config .entry)) ⌝ }
 {
     if on {
         config[0x06] |= 8;
@@ -138,7 +148,8 @@ fn show(config: &mut Config, on: bool)
 }
 
 // The message that the configuration asks for, where it is to be sent.
-fn message(config: &Config, send: bool) -> Msi
+fn message(config: &[u8], send: bool) -> Msi
+    requires { ⌜ 256 ≤ length (now config) ⌝ }
     ensures { λ r. ⌜ r ≡ cond send (messageOf (now (config .entry))) Msi.None ⌝ }
 {
     if send {
@@ -152,19 +163,36 @@ fn message(config: &Config, send: bool) -> Msi
     Msi::None
 }
 
-// The interrupt after a change of registers or configuration.
-pub fn update_irq(config: &mut Config, regs: &mut Registers, asserted: bool) -> Signal
-    ensures { λ r. ⌜ updateOut (now (config .exit)) (now (regs .exit)) r ≡ updateOf (now (config .entry)) (now (regs .entry)) asserted ⌝ }
+// The interrupt after a change of registers or configuration, of files that stand in slices.
+pub fn interrupt_of(config: &[u8], regs: &[u8], asserted: bool) -> Interrupt
+    requires { ⌜ (256 ≤ length (now config)) × (size ≤ length (now regs)) ⌝ }
+    ensures { λ r. ⌜ r ≡ interruptOf (now (config .entry)) (now (regs .entry)) asserted ⌝ }
 {
     let control = word::get32(regs, registers::INTCTL);
     let current = status(regs);
     let raised = pending(current, control);
     let messages = uses_messages(config);
+    let masked = config[0x05] & 4 != 0;
     let msi = message(config, raised & messages & !asserted);
-    show(config, raised & !messages);
-    word::put32_in(regs, registers::INTSTS, current);
-    Signal {
+    Interrupt {
+        status: current,
+        shown: raised & !messages,
         asserted: raised & messages,
+        level: raised & (!messages & !masked),
+        msi,
+    }
+}
+
+// The same, and both files brought up to date.
+pub fn update_irq(config: &mut Config, regs: &mut Registers, asserted: bool) -> Signal
+    ensures { λ r. ⌜ updateOut (now (config .exit)) (now (regs .exit)) r ≡ updateOf (now (config .entry)) (now (regs .entry)) asserted ⌝ }
+{
+    let now = interrupt_of(config, regs, asserted);
+    show(config, now.shown);
+    word::put32_in(regs, registers::INTSTS, now.status);
+    let msi = now.msi;
+    Signal {
+        asserted: now.asserted,
         msi,
     }
 }

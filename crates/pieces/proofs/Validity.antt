@@ -68,6 +68,15 @@ module _ (g : Cyclic) (count : ℕ) (byte : g .lvi ≤ 255) where
         },
       )
 
+  -- alone, the descriptor's index stays a byte
+  moved-listed : (x : State) (at n : ℕ) (end : End) → x .done < count → Moves g count x at n end → x .stream .descriptor ≤ 255 → movedOf g x at n end .stream .descriptor ≤ 255
+  moved-listed x at n Inside more k h = h
+  moved-listed x at n Plain more k h = following-listed (x .stream .descriptor) (g .lvi) (k .listed) byte
+  moved-listed x at n Flagged more k h = following-listed (x .stream .descriptor) (g .lvi) (k .listed) byte
+
+  pub pieces-listed : (fuel : ℕ) (x : State) → x .stream .descriptor ≤ 255 → piecesOf fuel g count x .state .stream .descriptor ≤ 255
+  pieces-listed = pieces-keep g count (λ (x : State). x .stream .descriptor ≤ 255) moved-listed
+
   pub pieces-valid : (fuel : ℕ) (x : State) → listSize ≤ length (x .list) → validOf (x .stream) (x .list) ≡ true
       → let y = piecesOf fuel g count x .state in validOf (y .stream) (y .list) ≡ true
   pieces-valid fuel x long valid =

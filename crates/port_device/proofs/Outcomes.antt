@@ -1,6 +1,6 @@
 -- The ways out of a call on bytes: unreadable, and done on what the records hold. Assumes nothing.
 use Prim.Native.Nat.{ℕ}
-use mathlib.Core.Path.{_≡_, ap, _∙_}
+use mathlib.Core.Path.{_≡_, sym, ap, _∙_}
 use mathlib.Core.Bool.{Bool, true, false}
 use mathlib.Core.Logic.{_≢_}
 use mathlib.Core.List.{List}
@@ -16,16 +16,17 @@ use Rattle.write.specs.Writes.{writeOf}
 use Rattle.hda.specs.Calls as hda
 use Rattle.record.specs.Layout.{deviceSize}
 use Rattle.record.specs.Devices.{deviceBytes}
-use Rattle.record.specs.Loads.{deviceAt}
+use Rattle.record.specs.Loads.{deviceAt, isDevice}
+use Rattle.record.proofs.Theorems.{device-loaded}
 use Rattle.advance.specs.declared.Advanced.{Advanced}
-use Rattle.advance.specs.Advance.{Left, leftOut, leftBy, advanceOf}
+use Rattle.advance.specs.Advance.{doneIn, advanceOf}
 use Rattle.fastpath.specs.Quick.{Tried}
 use Rattle.fastpath.proofs.Tries.{Carried}
 use Rattle.host_record.specs.Hosts.{hostBytes, hostAt}
 use Rattle.host_record.proofs.Theorems.{host-loaded}
 use Rattle.reply.specs.Replies.{isSent, replyOf, unreadableOf, isMachine}
 use Rattle.reply.proofs.Records.{machine-host}
-use Rattle.port_device.specs.Calls.{Lent, lent, Returned, returned, machineAt, carriedReply, behind, Made, made, madeOf, Stored, storedOut, storedOf, newOf, pausedOf}
+use Rattle.port_device.specs.Calls.{Lent, lent, Returned, returned, machineAt, carriedReply, returnedOf, behind, Made, made, madeOf, Stored, storedOut, storedOf, newOf, pausedOf}
 
 module _ (call : Machine → Done) (x : Lent) where
   pub unreadable-outcome : isMachine (x .device) (x .host) ≡ false → (r : ℕ) → r ≡ unreadableOf (length (x .lists)) (length (x .queues))
@@ -78,13 +79,13 @@ module _ (call : Machine → Done) (x : Lent) where
 
 -- `advance` on the record, and the host end that it answers stored
 pub advanced-outcome : (nanos : ℕ) (x : Lent) → isMachine (x .device) (x .host) ≡ true → (h : Host) → h ≡ hostAt (x .host) → (a : Advanced) (device lists queues memory : List ℕ)
-    → leftOut a device lists queues memory ≡ leftBy (advanceOf nanos (machine (deviceAt (x .device)) h (x .lists) (x .queues) (x .memory)))
+    → isDevice device ≡ true → Bytes device → doneIn a device lists queues memory ≡ advanceOf nanos (machine (deviceAt (x .device)) h (x .lists) (x .queues) (x .memory))
     → (host : List ℕ) → host ≡ hostBytes (a .host) → (sent : Bool) → sent ≡ isSent (a .msi) → (r : ℕ) → r ≡ replyOf (a .number) (a .level) sent 0
     → returned r (lent device host lists queues memory) ≡ behind (advanceOf nanos) x
 unfolding behind
-advanced-outcome nanos x t h eh a device lists queues memory e host es sent ed r er =
+advanced-outcome nanos x t h eh a device lists queues memory there bytes e host es sent ed r er =
     rw (t, er, ed, es, ← eh)
-    (ap (λ (l : Left). let b = l .advanced in returned (replyOf (b .number) (b .level) (isSent (b .msi)) 0) (lent (l .device) (hostBytes (b .host)) (l .lists) (l .queues) (l .memory))) e)
+    (ap (λ (b : List ℕ). returned (replyOf (a .number) (a .level) (isSent (a .msi)) 0) (lent b (hostBytes (a .host)) lists queues memory)) (sym (device-loaded device there bytes)) ∙ ap returnedOf e)
 
 -- base address 0 is the registers
 pub bar-zero : (bar offset : ℕ) (bytes : List ℕ) (x : Lent) → bar ≡ 0 → behind (writeOf offset bytes) x ≡ behind (hda.barWriteOf bar offset bytes) x

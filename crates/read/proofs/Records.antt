@@ -21,18 +21,13 @@ use Rattle.configuration.specs.Configuration.{identity}
 use Rattle.device.specs.Devices as devices
 use Rattle.device.specs.Devices.{streamValid, streamsValid, validOf}
 use Rattle.record.specs.Loads.{streamAt, deviceAt}
-use Rattle.record.proofs.Places.{row-at}
+use Rattle.record.proofs.Theorems.{stream-loaded}
 
-stream-there : (b : List ℕ) (i : ℕ) → i < streams → devices.streamAt (deviceAt b) i ≡ streamAt (680 + 34 * i) b
-unfolding deviceAt
-stream-there b i few =
-    row-at stream.freshOf (λ (k : ℕ). streamAt (680 + 34 * k) b) streams 0 i few ∙ ap (λ (k : ℕ). streamAt (680 + 34 * k) b) (zero-add i)
-
--- so what was found of it, with its part of the lists as end less start, is what the check asks
+-- what was found of a stream in the record, with its part of the lists as end less start, is what the check asks
 pub stream-held : (b lists : List ℕ) (i : ℕ) → i < streams → (s : Stream) → s ≡ streamAt (680 + 34 * i) b → (k : ℕ) → k ≡ listSize
     → (v : Bool) → v ≡ stream.validOf s (take k (drop (listSize * i) lists)) → streamValid (deviceAt b) lists i ≡ v
 stream-held b lists i few s es k ek v ev =
-    ap (λ (x : Stream). stream.validOf x (take listSize (drop (listSize * i) lists))) (stream-there b i few ∙ sym es)
+    ap (λ (x : Stream). stream.validOf x (take listSize (drop (listSize * i) lists))) (stream-loaded b i few ∙ sym es)
     ∙ ap (λ (n : ℕ). stream.validOf s (take n (drop (listSize * i) lists))) (sym ek)
     ∙ sym ev
 

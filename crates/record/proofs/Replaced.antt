@@ -1,16 +1,16 @@
 -- Parts of a device put over those in its record give the record of the device with these parts. Assumes nothing.
-use Prim.Native.Nat.{ℕ, _+_, _*_, _≤_}
+use Prim.Native.Nat.{ℕ, _+_, _*_, _≤_, _<_}
 use mathlib.Core.Path.{_≡_, refl, sym, ap, _∙_}
 use mathlib.Core.Bool.{Bool, true}
 use mathlib.Core.List.{List, [], _∷_, _++_, append-assoc}
 use native.Mathlib.Omega.{arith}
-use native.Mathlib.Nat.{zero-add}
-use lib.ListN.{length, drop, take, set, length-append, length-drop}
-use lib.Seq.{take-at, drop-at, length-take-le}
+use lib.ListN.{length, drop, take, getD, set, length-append, length-drop, length-set}
+use lib.Seq.{take-at, drop-at, length-take-le, getD-set-same, getD-set-other}
 use Rattle.word.specs.Value.{bytesOf, Bytes}
 use Rattle.word.specs.Place.{putAt, storeAt}
 use Rattle.word.proofs.Value.{length-bytes}
-use Rattle.word.proofs.Put.{set-put}
+use Rattle.word.proofs.Lists.{set-keeps}
+use Rattle.word.proofs.Put.{set-put, put-lent}
 use Rattle.word.proofs.Place.{store-put, word-bound}
 use Rattle.clock.specs.declared.Clock.{Clock}
 use Rattle.codec.specs.declared.Codec.{Codec}
@@ -23,15 +23,15 @@ use Rattle.stream.specs.Box.{streams}
 use Rattle.rings.specs.declared.Link.{Link}
 use Rattle.rings.specs.Rings.{linkOf}
 use Rattle.device.specs.declared.Hda.{Hda}
-use Rattle.device.specs.Devices.{withConfig, withRegs, withLink, withClock, withAsserted}
+use Rattle.device.specs.Devices.{hda, withConfig, withRegs, withLink, withStream, withClock, withAsserted}
 use Rattle.record.specs.Layout.{latchPlace, deviceSize}
 use Rattle.record.specs.Rows.{rowOf}
-use Rattle.record.specs.Devices.{mark, flag, headOf, streamsBytes, deviceBytes, replacedIn, withStreams}
+use Rattle.record.specs.Devices.{mark, flag, headOf, numbersOf, streamsBytes, deviceBytes}
 use Rattle.record.specs.Loads.{streamAt, deviceAt, isDevice, Holds}
 use Rattle.record.specs.Typed.{Fits, Sized, TypedStream, TypedDevice}
-use Rattle.record.proofs.Sizes.{length-head, length-streams, length-device}
-use Rattle.record.proofs.Places.{row-at}
-use Rattle.record.proofs.Theorems.{tailOf, timesOf, regrouped, device-stored, device-record, device-loaded}
+use Rattle.record.proofs.Sizes.{length-head, length-numbers, length-streams, length-device}
+use Rattle.record.proofs.Rows.{runs-but}
+use Rattle.record.proofs.Theorems.{tailOf, timesOf, regrouped, device-stored, device-record, record-sized, stream-loaded, device-loaded}
 
 -- a run put over one of its length
 over : (at : ℕ) (new l front old rest : List ℕ) → l ≡ front ++ (old ++ rest) → length front ≡ at → length new ≡ length old → putAt at new l ≡ front ++ (new ++ rest)
@@ -42,6 +42,9 @@ over at new l front old rest e p n =
     let last : drop (at + length new) l ≡ rest =
     ap (drop (at + length new)) (e ∙ sym (append-assoc front old rest)) ∙ drop-at (front ++ old) rest (at + length new) both in
     rw (first, last)
+
+grouped : (h front x rest l : List ℕ) → h ++ ((front ++ (x ++ rest)) ++ l) ≡ (h ++ front) ++ (x ++ (rest ++ l))
+grouped h front x rest l = simp append-assoc
 
 -- what stands before the files
 abbrev flagsOf : Hda → List ℕ
@@ -139,11 +142,22 @@ module _ (d : Hda) (z : Sized d) where
       (length-bytes 8 n ∙ sym (length-bytes 8 (d .clock .fraction)))
       ∙ sym (regrouped (withClock d (clockOf (d .clock .ticks) n)) ∙ simp append-assoc)
 
-  put-bank : (bank : List Stream) → putAt 680 (streamsBytes streams 0 bank) (deviceBytes d) ≡ deviceBytes (withStreams d bank)
+  put-stream : length (d .streams) ≡ streams → (i : ℕ) (s : Stream) → i < streams → putAt (680 + 34 * i) (numbersOf s) (deviceBytes d) ≡ deviceBytes (withStream d i s)
   unfolding deviceBytes headOf
-  put-bank bank =
-      over 680 (streamsBytes streams 0 bank) (deviceBytes d) (headOf d) (streamsBytes streams 0 (d .streams)) (flag (d .asserted) ∷ []) refl (length-head d z)
-      (length-streams bank ∙ sym (length-streams (d .streams)))
+  put-stream count i s few =
+      let old : ℕ → List ℕ = λ k. numbersOf (getD (d .streams) k freshOf) in
+      let new : ℕ → List ℕ = λ k. numbersOf (getD (set (d .streams) i s) k freshOf) in
+      let own : new i ≡ numbersOf s = ap numbersOf (getD-set-same (d .streams) i s freshOf (omega arith)) in
+      let but = runs-but old new i 34 (λ j n. ap numbersOf (getD-set-other (d .streams) i j s freshOf n)) (λ j. length-numbers (getD (d .streams) j freshOf)) streams 0 (omega arith) few in
+      let front = but .0 in
+      let rest = but .1 in
+      over (680 + 34 * i) (numbersOf s) (deviceBytes d) (headOf d ++ front) (old i) (rest ++ flag (d .asserted) ∷ [])
+      (ap (λ (r : List ℕ). headOf d ++ (r ++ flag (d .asserted) ∷ [])) (but .3) ∙ grouped (headOf d) front (old i) rest (flag (d .asserted) ∷ []))
+      (length-append (headOf d) front ∙ omega (arith, length-head d z, but .2))
+      (length-numbers s ∙ sym (length-numbers (getD (d .streams) i freshOf)))
+      ∙ sym
+      (ap (λ (r : List ℕ). headOf d ++ (r ++ flag (d .asserted) ∷ [])) (but .4 ∙ ap (λ (x : List ℕ). front ++ (x ++ rest)) own)
+      ∙ grouped (headOf d) front (numbersOf s) rest (flag (d .asserted) ∷ []))
 
   put-latch : (asserted : Bool) → set (deviceBytes d) latchPlace (flag asserted) ≡ deviceBytes (withAsserted d asserted)
   unfolding deviceBytes headOf
@@ -180,7 +194,7 @@ loaded-typed b size h =
       fraction = word-bound 8 670 b (omega arith) h;
       responses = word-bound 2 678 b (omega arith) h;
       count = refl;
-      each = λ i few. rw (row-at freshOf (λ (k : ℕ). streamAt (680 + 34 * k) b) streams 0 i few, zero-add i) (stream-typed b (680 + 34 * i) (omega arith) h);
+      each = λ i few. rw (stream-loaded b i few) (stream-typed b (680 + 34 * i) (omega arith) h);
     }
 
 -- a record of a device holds it
@@ -188,40 +202,46 @@ held : (d : Hda) → TypedDevice d → (b : List ℕ) → b ≡ deviceBytes d �
 held d t b e = record { device = ap isDevice e ∙ device-record d t; same = ap deviceAt e ∙ device-stored d t }
 
 -- ---- the parts over those of the device that stands there
-module _ (b : List ℕ) (size : length b ≡ deviceSize) (r : isDevice b ≡ true) (h : Bytes b) where
+module _ (b : List ℕ) (r : isDevice b ≡ true) (h : Bytes b) where
   abbrev d : Hda
   d = deviceAt b
 
   t : TypedDevice d
-  t = loaded-typed b size h
+  t = loaded-typed b (record-sized b r) h
 
   whole : b ≡ deviceBytes d
   whole = sym (device-loaded b r h)
 
-  module _ (config regs : List ℕ) (asserted : Bool) (lc : length config ≡ 256) (lr : length regs ≡ 256) (p q : List ℕ) (v : ℕ) (ep : p ≡ putAt 6 config b) (eq : q ≡ putAt 262 regs p)
-      (ev : v ≡ flag asserted) where
-    pub files-replaced : set q latchPlace v ≡ deviceBytes (replacedIn d config regs asserted)
-    files-replaced =
-        let d1 : Hda = withConfig d config in
-        let z1 : Sized d1 = record { config = lc; regs = t .sized .regs; codec = t .sized .codec } in
-        let d2 : Hda = withRegs d1 regs in
-        let z2 : Sized d2 = record { config = lc; regs = lr; codec = t .sized .codec } in
-        let first = ep ∙ ap (putAt 6 config) whole ∙ put-config d (t .sized) config lc in
-        let second = eq ∙ ap (putAt 262 regs) first ∙ put-regs d1 z1 regs lr in
-        rw (ev, second) (put-latch d2 z2 asserted)
+  -- .. with other files and message latch
+  files-typed : (config regs : List ℕ) (asserted : Bool) → length config ≡ 256 → length regs ≡ 256
+      → TypedDevice (hda config regs (d .link) (d .streams) (d .clock) (d .microphone) (d .paused) asserted)
+  files-typed config regs asserted lc lr =
+      record {
+        sized = record { config = lc; regs = lr; codec = t .sized .codec };
+        ticks = t .ticks;
+        fraction = t .fraction;
+        responses = t .responses;
+        count = t .count;
+        each = t .each;
+      }
 
-    pub files-held : Holds (set q latchPlace v) (replacedIn d config regs asserted)
-    files-held =
-        held (replacedIn d config regs asserted)
-        (record {
-          sized = record { config = lc; regs = lr; codec = t .sized .codec };
-          ticks = t .ticks;
-          fraction = t .fraction;
-          responses = t .responses;
-          count = t .count;
-          each = t .each;
-        })
-        _ files-replaced
+  pub regs-held : (regs : List ℕ) → length regs ≡ 256 → (p : List ℕ) → p ≡ putAt 262 regs b → Holds p (withRegs d regs)
+  regs-held regs e p ep =
+      held (withRegs d regs) (files-typed (d .config) regs (d .asserted) (t .sized .config) e) p (ep ∙ ap (putAt 262 regs) whole ∙ put-regs d (t .sized) regs e)
+
+  -- files that were lent where they stand
+  pub regs-lent : (regs : List ℕ) (k : ℕ) → k ≡ 256 → length regs ≡ 256 → Holds (take 262 b ++ (regs ++ drop k (drop 262 b))) (withRegs d regs)
+  regs-lent regs k ek e = regs-held regs e _ (put-lent 262 k regs b (omega arith))
+
+  pub config-lent : (config : List ℕ) (k : ℕ) → k ≡ 256 → length config ≡ 256 → Holds (take 6 b ++ (config ++ drop k (drop 6 b))) (withConfig d config)
+  config-lent config k ek e =
+      held (withConfig d config) (files-typed config (d .regs) (d .asserted) e (t .sized .regs)) _
+      (put-lent 6 k config b (omega arith) ∙ ap (putAt 6 config) whole ∙ put-config d (t .sized) config e)
+
+  pub latch-held : (asserted : Bool) (v : ℕ) → v ≡ flag asserted → Holds (set b latchPlace v) (withAsserted d asserted)
+  latch-held asserted v e =
+      held (withAsserted d asserted) (files-typed (d .config) (d .regs) asserted (t .sized .config) (t .sized .regs)) _
+      (rw e (ap (λ (l : List ℕ). set l latchPlace (flag asserted)) whole ∙ put-latch d (t .sized) asserted))
 
   pub link-held : (link : Link) → WellFormed (link .codec) → link .responses ≤ 255 → (p q : List ℕ) → p ≡ storeCodecAt 518 (link .codec) b → q ≡ storeAt 2 678 (link .responses) p
       → Holds q (withLink d link)
@@ -243,5 +263,15 @@ module _ (b : List ℕ) (size : length b ≡ deviceSize) (r : isDevice b ≡ tru
       (record { sized = record { config = z1 .config; regs = z1 .regs; codec = z1 .codec }; ticks = ticks; fraction = fraction; responses = t .responses; count = t .count; each = t .each }) q
       (eq ∙ ap (storeAt 8 670 (c .fraction)) first ∙ put-fraction d1 z1 (c .fraction))
 
-  pub streams-replaced : (bank : List Stream) (p : List ℕ) → p ≡ putAt 680 (streamsBytes streams 0 bank) b → p ≡ deviceBytes (withStreams d bank)
-  streams-replaced bank p e = e ∙ ap (putAt 680 (streamsBytes streams 0 bank)) whole ∙ put-bank d (t .sized) bank
+  pub stream-put : (i : ℕ) (s : Stream) → i < streams → TypedStream s → (p : List ℕ) → p ≡ putAt (680 + 34 * i) (numbersOf s) b → Holds p (withStream d i s)
+  stream-put i s few typed p e =
+      held (withStream d i s)
+      (record {
+        sized = record { config = t .sized .config; regs = t .sized .regs; codec = t .sized .codec };
+        ticks = t .ticks;
+        fraction = t .fraction;
+        responses = t .responses;
+        count = length-set (d .streams) i s ∙ t .count;
+        each = λ j less. set-keeps TypedStream (d .streams) i j s freshOf typed (t .each j less);
+      })
+      p (e ∙ ap (putAt (680 + 34 * i) (numbersOf s)) whole ∙ put-stream d (t .sized) (t .count) i s few)

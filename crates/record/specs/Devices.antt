@@ -41,11 +41,3 @@ streamsBytes n i bank = runsOf (λ k. numbersOf (getD bank k freshOf)) n i
 
 unfoldable pub deviceBytes : Hda → List ℕ
 deviceBytes d = headOf d ++ (streamsBytes streams 0 (d .streams) ++ flag (d .asserted) ∷ [])
-
--- a device with other files and message latch
-abbrev pub replacedIn : Hda → List ℕ → List ℕ → Bool → Hda
-replacedIn d config regs asserted = devices.hda config regs (d .link) (d .streams) (d .clock) (d .microphone) (d .paused) asserted
-
--- .. and with other streams
-abbrev pub withStreams : Hda → List Stream → Hda
-withStreams d bank = devices.hda (d .config) (d .regs) (d .link) bank (d .clock) (d .microphone) (d .paused) (d .asserted)

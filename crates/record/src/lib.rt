@@ -1,7 +1,6 @@
 // The device as bytes (docs/LAYOUT.md): the record that crosses the C boundary. It begins as a saved state does, so that both are written by the same functions.
 use clock::Clock;
 use codec::Codec;
-use configuration::Config;
 use device::Hda;
 use registers::Registers;
 use rings::Link;
@@ -13,9 +12,9 @@ ghost use Prim.Native.Nat.{_+_, _*_, _≤_, _<_};
 ghost use lib.ListN.{length};
 ghost use Rattle.word.specs.Place.{putAt, storeAt};
 ghost use Rattle.stream.specs.Box.{streams};
-ghost use Rattle.device.specs.Devices.{withLink, withClock};
+ghost use Rattle.device.specs.Devices.{withRegs, withLink, withStream, withClock, withAsserted};
 ghost use Rattle.record.specs.Layout.{latchPlace, deviceSize};
-ghost use Rattle.record.specs.Devices.{flag, linkBytes, headOf, countsOf, numbersOf, streamsBytes, deviceBytes, replacedIn, withStreams};
+ghost use Rattle.record.specs.Devices.{flag, linkBytes, headOf, countsOf, numbersOf, streamsBytes, deviceBytes};
 ghost use Rattle.record.specs.Loads.{flagAt, markedOf, blockAt, linkAt, clockAt, streamAt, streamsAt, deviceAt, isDevice, Holds};
 
 // Bytes of a state or a device record before its streams, and of a stream's numbers in it.
@@ -124,15 +123,12 @@ pub fn store_device(hda: Hda, into: &mut [u8])
 
 // ---- Parts of a device where it stands in its record; all else stays where it is.
 
-// Its configuration, registers and message latch.
-pub fn replace_files(into: &mut [u8], config: &Config, regs: &Registers, asserted: bool)
+// Its registers.
+pub fn replace_registers(into: &mut [u8], regs: &Registers)
     requires { ⌜ (length (now into) ≡ deviceSize) × (isDevice (now into) ≡ true) ⌝ }
-    ensures { λ _. ⌜ now (into .exit) ≡ deviceBytes (replacedIn (deviceAt (now (into .entry))) (now (config .entry)) (now (regs .entry)) asserted) ⌝ }
-    ensures { λ _. ⌜ Holds (now (into .exit)) (replacedIn (deviceAt (now (into .entry))) (now (config .entry)) (now (regs .entry)) asserted) ⌝ }
+    ensures { λ _. ⌜ Holds (now (into .exit)) (withRegs (deviceAt (now (into .entry))) (now (regs .entry))) ⌝ }
 {
-    put(into, 6, config);
     put(into, 262, regs);
-    into[LATCH] = flag_byte(asserted);
 }
 
 // Its codec and responses.
@@ -154,12 +150,21 @@ pub fn replace_clock(into: &mut [u8], c: Clock)
     word::put64(into, 670, c.fraction);
 }
 
-// Its streams.
-pub fn replace_streams(into: &mut [u8], bank: [Stream; STREAMS])
-    requires { ⌜ (length (now into) ≡ deviceSize) × (isDevice (now into) ≡ true) ⌝ }
-    ensures { λ _. ⌜ now (into .exit) ≡ deviceBytes (withStreams (deviceAt (now (into .entry))) bank) ⌝ }
+// Its stream `index`.
+pub fn replace_stream(into: &mut [u8], index: usize, s: Stream)
+    requires { ⌜ (length (now into) ≡ deviceSize) × (isDevice (now into) ≡ true) × (index < streams) × (s .descriptor ≤ 255) ⌝ }
+    ensures { λ _. ⌜ Holds (now (into .exit)) (withStream (deviceAt (now (into .entry))) index s) ⌝ }
 {
-    put_streams(bank, into);
+    let place = HEAD + NUMBERS * index;
+    put_numbers(s, into, place);
+}
+
+// Its message latch.
+pub fn replace_latch(into: &mut [u8], asserted: bool)
+    requires { ⌜ (length (now into) ≡ deviceSize) × (isDevice (now into) ≡ true) ⌝ }
+    ensures { λ _. ⌜ Holds (now (into .exit)) (withAsserted (deviceAt (now (into .entry))) asserted) ⌝ }
+{
+    into[LATCH] = flag_byte(asserted);
 }
 
 // Whether the device in a record has a message asserted.
@@ -230,7 +235,7 @@ pub fn load_stream(from: &[u8], at: usize) -> Stream
 }
 
 // Every stream's numbers.
-pub fn load_streams(from: &[u8]) -> [Stream; STREAMS]
+fn load_streams(from: &[u8]) -> [Stream; STREAMS]
     requires { ⌜ deviceSize ≤ length (now from) ⌝ }
     ensures { λ r. ⌜ r ≡ streamsAt streams 0 (now (from .entry)) ⌝ }
 {

@@ -100,11 +100,18 @@ pub const BDPL: usize = 0x18;
 // Capabilities: output streams, input streams, 64-bit addresses.
 const CAPABILITIES: u16 = (0x1000 * (STREAMS - STREAMS / 2) + 0x100 * (STREAMS / 2) + 1) as u16;
 
-// Whether DMA may run: bus master on in the configuration's command byte, and the controller out of reset.
-pub fn dma_enabled(config: &[u8; 256], regs: &Registers) -> bool
+// Whether DMA may run, of files that stand in slices: bus master on in the configuration's command byte, and the controller out of reset.
+pub fn dma_enabled_in(config: &[u8], regs: &[u8]) -> bool
+    requires { ⌜ (256 ≤ length (now config)) × (size ≤ length (now regs)) ⌝ }
     ensures { λ r. ⌜ r ≡ dmaOf (now (config .entry)) (now (regs .entry)) ⌝ }
 {
     (config[4] & 4 != 0) & (regs[GCTL] & 1 != 0)
+}
+
+pub fn dma_enabled(config: &[u8; 256], regs: &Registers) -> bool
+    ensures { λ r. ⌜ r ≡ dmaOf (now (config .entry)) (now (regs .entry)) ⌝ }
+{
+    dma_enabled_in(config, regs)
 }
 
 // Zeros in the place of the `n` bytes at `at`.

@@ -7,9 +7,10 @@ ghost use mathlib.Core.Path.{_≡_};
 ghost use Prim.Native.Nat.{ℕ, _+_, _%_, _≤_, _<_};
 ghost use mathlib.Core.List.{List, _++_};
 ghost use lib.Dec.{eqb};
+ghost use lib.ListN.{length};
 ghost use Rattle.word.specs.Value.{bytesOf};
 ghost use Rattle.memory.specs.Memory.{accessOf, writeOf};
-ghost use Rattle.registers.specs.Places.{corbrp, corbwp, corbsize, byteAt, has};
+ghost use Rattle.registers.specs.Places.{size, corbrp, corbwp, corbsize, byteAt, has};
 ghost use Rattle.rings.specs.Rings.{ringsOf, entriesOf, entryAt, reportedOf, thresholdOf, countedOf, nextResponse, responseOf, answeredOf, currentOf, nextCommand, executedOf, fetchOf, commandAs, fetchesOf, idleOf, runningOf, restsOf, commandsOf};
 
 // The link behind the rings: the codec, and how many responses have not been reported by an interrupt.
@@ -163,15 +164,16 @@ fn answer(regs: &mut Registers, link: Link, memory: &mut [u8], reply: Reply) -> 
 }
 
 // A pointer of the command ring.
-fn current(regs: &Registers, at: usize) -> u16
-    requires { ⌜ at + 2 ≤ 256 ⌝ }
+fn current(regs: &[u8], at: usize) -> u16
+    requires { ⌜ (size ≤ length (now regs)) × (at + 2 ≤ 256) ⌝ }
     ensures { λ r. ⌜ (r ≡ currentOf (now (regs .entry)) at) × (r < 256) ⌝ }
 {
     reduce(word::get16(regs, at) as u32, regs[registers::CORBSIZE])
 }
 
 // Whether no command waits.
-fn caught_up(regs: &Registers) -> bool
+fn caught_up(regs: &[u8]) -> bool
+    requires { ⌜ size ≤ length (now regs) ⌝ }
     ensures { λ r. ⌜ r ≡ eqb (currentOf (now (regs .entry)) corbrp) (currentOf (now (regs .entry)) corbwp) ⌝ }
 {
     current(regs, registers::CORBRP) == current(regs, registers::CORBWP)
@@ -256,15 +258,17 @@ fn idle(regs: &mut Registers, link: Link) -> Link
 }
 
 // Whether the command ring runs.
-fn running(dma: bool, regs: &Registers) -> bool
+fn running(dma: bool, regs: &[u8]) -> bool
+    requires { ⌜ size ≤ length (now regs) ⌝ }
     ensures { λ r. ⌜ r ≡ runningOf dma (now (regs .entry)) ⌝ }
 {
     dma & any(2, regs[registers::CORBCTL]) & !any(0x80, regs[registers::CORBRP + 1])
 }
 
-// Whether `commands` would leave everything as it is: the command ring does not run, or it has caught up and no response is left to report. So who asks first need
-// not hand over the link.
-pub fn rests(dma: bool, regs: &Registers, responses: u32) -> bool
+// Whether `commands` would leave everything as it is, of a register file that stands in a slice: the command ring does not run, or it has caught up and no response
+// is left to report. So who asks first need not hand over the link.
+pub fn rests(dma: bool, regs: &[u8], responses: u32) -> bool
+    requires { ⌜ size ≤ length (now regs) ⌝ }
     ensures { λ r. ⌜ r ≡ restsOf dma (now (regs .entry)) responses ⌝ }
 {
     if !running(dma, regs) {

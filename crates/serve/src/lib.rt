@@ -1,28 +1,28 @@
 // Every stream's turn in order, on a device that stands in its record (document 01, "`advance`, `write`, configuration, snapshot"; the loop of the Rust's
-// `Hda::advance`). The registers and the streams are taken out of it, since turns change them; the rest is read where it stands.
+// `Hda::advance`). A turn has the registers lent where they stand, and its stream taken out and put back.
 use host::Host;
-use registers::Registers;
 use stream::STREAMS;
 use stream::Stream;
 ghost use mathlib.Core.Path.{_≡_};
 ghost use mathlib.Core.Bool.{true, false};
-ghost use Prim.Native.Nat.{_<_};
+ghost use Prim.Native.Nat.{_≤_, _<_};
 ghost use lib.ListN.{length};
 ghost use Rattle.stream.specs.Box.{streams};
+ghost use Rattle.registers.specs.Places.{size};
 ghost use Rattle.device.specs.Machines.{machine};
 ghost use Rattle.record.specs.Layout.{deviceSize};
-ghost use Rattle.serve.specs.Serve.{runs, bankOf, turnsAnswer, turnsOf, turnAt, serveOf, ServeNeeds};
+ghost use Rattle.record.specs.Loads.{blockAt, deviceAt, isDevice};
+ghost use Rattle.serve.specs.Serve.{runs, turnsAnswer, turnsOf, turnAt, serveOf, ServeNeeds};
 
-// What the streams' turns answer beside the lent spaces and the registers: whether an opening was refused, the streams and the host end.
+// What the streams' turns answer beside the record and the lent spaces: whether an opening was refused, and the host end.
 pub struct Served {
-    pub streams: [Stream; STREAMS],
     pub host: Host,
     pub refused: bool,
 }
 
 // Whether a stream takes a turn: it runs, is not in reset, and its synchronization bit is clear.
-fn is_running(regs: &Registers, index: usize) -> bool
-    requires { ⌜ index < streams ⌝ }
+fn is_running(regs: &[u8], index: usize) -> bool
+    requires { ⌜ (size ≤ length (now regs)) × (index < streams) ⌝ }
     ensures { λ r. ⌜ r ≡ runs (now (regs .entry)) index ⌝ }
 {
     let control = regs[registers::STREAM_BASE + registers::STREAM_SIZE * index];
@@ -31,11 +31,9 @@ fn is_running(regs: &Registers, index: usize) -> bool
     (control & 3 == 2) & !held
 }
 
-// The turn of stream `index`, which takes one: its record taken out and put back, its parts of the lent spaces lent.
+// The turn of stream `index`, which takes one, with its parts of the lent spaces.
 fn turn_at(
-    device: &[u8],
-    regs: &mut Registers,
-    mut bank: [Stream; STREAMS],
+    device: &mut [u8],
     host: Host,
     lists: &mut [u8],
     queues: &mut [u8],
@@ -43,19 +41,20 @@ fn turn_at(
     nanos: u64,
     index: usize,
 ) -> Served
-    requires { ⌜ (length (now device) ≡ deviceSize) × (index < streams) × (runs (now regs) index ≡ true) × ServeNeeds (machine (bankOf (now device) (now regs) bank) host (now lists) (now queues) (now memory)) ⌝ }
-    ensures { λ r. ⌜ turnsAnswer r (now (device .entry)) (now (regs .exit)) (now (lists .exit)) (now (queues .exit)) (now (memory .exit)) ≡ turnAt nanos index (turnsOf false (machine (bankOf (now (device .entry)) (now (regs .entry)) bank) host (now (lists .entry)) (now (queues .entry)) (now (memory .entry)))) ⌝ }
+    requires { ⌜ (length (now device) ≡ deviceSize) × (isDevice (now device) ≡ true) × (index < streams) × (runs (blockAt 262 (now device)) index ≡ true) × ServeNeeds (machine (deviceAt (now device)) host (now lists) (now queues) (now memory)) ⌝ }
+    ensures { λ r. ⌜ turnsAnswer r (now (device .exit)) (now (lists .exit)) (now (queues .exit)) (now (memory .exit)) ≡ turnAt nanos index (turnsOf false (machine (deviceAt (now (device .entry))) host (now (lists .entry)) (now (queues .entry)) (now (memory .entry)))) ⌝ }
+    ensures { λ _. ⌜ isDevice (now (device .exit)) ≡ true ⌝ }
 {
     let list = Stream::LIST * index;
     let list_end = list + Stream::LIST;
     let part = Stream::QUEUE * index;
     let part_end = part + Stream::QUEUE;
-    let s = bank[index];
+    let s = record::load_stream(device, record::HEAD + record::NUMBERS * index);
     let link = record::load_link(device);
     let codec = link.codec;
     let microphone = device[4] == 1;
     let t = turn::turn(
-        regs,
+        &mut device[262..518],
         codec,
         host,
         microphone,
@@ -68,50 +67,45 @@ fn turn_at(
         memory,
     );
     let next = t.stream;
-    bank[index] = next;
+    record::replace_stream(device, index, next);
     let end = t.host;
     Served {
         refused: t.refused,
-        streams: bank,
         host: end,
     }
 }
 
 // Every stream in order, up to a refused opening.
 pub fn serve(
-    device: &[u8],
-    regs: &mut Registers,
-    bank: [Stream; STREAMS],
+    device: &mut [u8],
     host: Host,
     lists: &mut [u8],
     queues: &mut [u8],
     memory: &mut [u8],
     nanos: u64,
 ) -> Served
-    requires { ⌜ (length (now device) ≡ deviceSize) × ServeNeeds (machine (bankOf (now device) (now regs) bank) host (now lists) (now queues) (now memory)) ⌝ }
-    ensures { λ r. ⌜ turnsAnswer r (now (device .entry)) (now (regs .exit)) (now (lists .exit)) (now (queues .exit)) (now (memory .exit)) ≡ serveOf nanos (machine (bankOf (now (device .entry)) (now (regs .entry)) bank) host (now (lists .entry)) (now (queues .entry)) (now (memory .entry))) ⌝ }
+    requires { ⌜ (length (now device) ≡ deviceSize) × (isDevice (now device) ≡ true) × ServeNeeds (machine (deviceAt (now device)) host (now lists) (now queues) (now memory)) ⌝ }
+    ensures { λ r. ⌜ turnsAnswer r (now (device .exit)) (now (lists .exit)) (now (queues .exit)) (now (memory .exit)) ≡ serveOf nanos (machine (deviceAt (now (device .entry))) host (now (lists .entry)) (now (queues .entry)) (now (memory .entry))) ⌝ }
+    ensures { λ _. ⌜ isDevice (now (device .exit)) ≡ true ⌝ }
 {
     let count = STREAMS;
-    let mut b = bank;
     let mut h = host;
     let mut index = 0;
     while index < count {
-        // Here and not in the turn: streams and a host end that are handed on cost a copy.
-        if !is_running(regs, index) {
+        // Here and not in the turn: a host end that is handed on costs a copy.
+        if !is_running(&device[262..518], index) {
             index += 1;
             continue;
         }
-        let r = turn_at(device, regs, b, h, lists, queues, memory, nanos, index);
+        let r = turn_at(device, h, lists, queues, memory, nanos, index);
         if r.refused {
             return r;
         }
-        b = r.streams;
         h = r.host;
         index += 1;
     }
     Served {
         refused: false,
-        streams: b,
         host: h,
     }
 }

@@ -12,8 +12,9 @@ pub const STREAMS: usize = 2;
 pub struct Stream {
     pub descriptor: u32,
     pub offset: u32,
-    pub submitted: u64,
     pub consumed: u64,
+    // Between two that a transfer leaves as they are: so they are not moved as one, right after each was stored alone.
+    pub submitted: u64,
     // Frame time in billionths of a frame.
     pub fraction: u64,
     // How many completion positions are pending in the stream's part of the lent list space.

@@ -1,5 +1,6 @@
--- What a turn leaves for those after it: its own stream and queue within their limits, the other streams' queues as they were. Assumes nothing.
-use Prim.Native.Nat.{ℕ, _≤_}
+-- What a turn leaves for those after it: its own stream and queue within their limits, a descriptor's index that is a byte, the other streams' queues as they were.
+-- Assumes nothing.
+use Prim.Native.Nat.{ℕ, _*_, _≤_}
 use mathlib.Core.Path.{_≡_, refl, _∙_}
 use mathlib.Core.Bool.{Bool, true, false, not, _&&_}
 use mathlib.Core.List.{List}
@@ -12,6 +13,10 @@ use Rattle.codec.specs.declared.Codec.{Codec}
 use Rattle.stream.specs.declared.Stream.{Stream}
 use Rattle.stream.specs.Streams.{places}
 use Rattle.stream.specs.Box.{captures}
+use Rattle.stream.specs.Update.{updateOf}
+use Rattle.plan.proofs.Laws.{ready-byte}
+use Rattle.pieces.specs.Pieces.{stateOf}
+use Rattle.pieces.proofs.Validity.{pieces-listed}
 use Rattle.queue.specs.declared.Queue.{Queue}
 use Rattle.queue.specs.Queues.{capacity, queue, closed}
 use Rattle.host.specs.declared.Host.{Host}
@@ -19,7 +24,8 @@ use Rattle.host.specs.declared.Opening.{Opening}
 use Rattle.host.specs.Hosts.{openingOf, openOf, failsOf, queueAt, withQueue}
 use Rattle.turn.specs.Engines.{Work}
 use Rattle.turn.specs.Turns.{openStreamOf, Turn, turnOf, TurnNeeds}
-use Rattle.turn.proofs.Rounds.{Within, within}
+use Rattle.turn.proofs.Facts.{transfer-stream}
+use Rattle.turn.proofs.Rounds.{Kept, Within, within}
 use Rattle.turn.proofs.Turns.{turn-by}
 
 pub record TurnLeaves (h : Host) (i : ℕ) (t : Turn) : Type 0 where
@@ -54,3 +60,23 @@ turn-leaves regs codec h microphone i nanos limit s l part m needs =
       others = others-put h i h′ (x .engine .queue) o;
     })
     codec h microphone nanos limit s l part m (λ j n. refl) (others-open h microphone i) (needs .pending, needs .queued)
+
+abbrev Listed : Stream → Queue → List ℕ → Type 0
+Listed s q l = s .descriptor ≤ 255
+
+listed : Kept Listed
+unfolding updateOf
+listed =
+    record {
+      times = λ s q l fraction _ h. h;
+      empties = λ s q l live h. h;
+      updates = λ s q l latency h. h;
+      moves = λ g s q connected left right l part m n h.
+          transfer-stream g s q connected left right l part m (4 * n) (λ s′ l′. s′ .descriptor ≤ 255) h
+          (λ pcm ready. pieces-listed g (4 * n) (ready-byte g ready) (4 * n) (stateOf s l m pcm 0) h);
+    }
+
+pub turn-listed : (regs : List ℕ) (codec : Codec) (h : Host) (microphone : Bool) (i nanos limit : ℕ) (s : Stream) (l part m : List ℕ) → s .descriptor ≤ 255
+    → turnOf regs codec h microphone i nanos limit s l part m .turned .stream .descriptor ≤ 255
+turn-listed regs codec h microphone i nanos limit s l part m few =
+    turn-by Listed listed (λ _. Unit {0}) (λ t. t .turned .stream .descriptor ≤ 255) regs i (λ refused h′ x _ v. v) codec h microphone nanos limit s l part m tt tt few

@@ -5,7 +5,6 @@ use format::Format;
 use host::Host;
 use host::Opening;
 use queue::Queue;
-use registers::Registers;
 use stream::Cyclic;
 use stream::Stream;
 use transfer::Transferred;
@@ -17,6 +16,7 @@ ghost use Rattle.codec.specs.Codecs.{amplifierByteOf};
 ghost use Rattle.word.specs.Value.{bytesOf};
 ghost use Rattle.clock.specs.Billionths.{billion};
 ghost use Rattle.memory.specs.Memory.{accessOf, writeOf};
+ghost use Rattle.registers.specs.Places.{size};
 ghost use Rattle.turn.specs.Setups.{cyclicOf, setupOf};
 ghost use Rattle.turn.specs.Engines.{workOf, stoppedOf, positionOf, statusOf, positionAt, publishedOf, publishOf, movedOn, updateOut, updatedOf, framesOf, transferredOf, failedOf, settledOf, roundOf, roundsOf, dueOf, servedOf};
 ghost use Rattle.turn.specs.Turns.{openStreamOf, engineOf, storeEngine, turnedOf, turnOut, openedOf, turnOf, UpdateNeeds, WorkNeeds, TurnNeeds};
@@ -73,8 +73,8 @@ fn amplifier_byte(codec: Codec, input: bool, side: usize) -> u8
 }
 
 // What the registers say of a stream's cyclic buffer.
-fn cyclic(regs: &Registers, index: usize) -> Cyclic
-    requires { ⌜ index < streams ⌝ }
+fn cyclic(regs: &[u8], index: usize) -> Cyclic
+    requires { ⌜ (size ≤ length (now regs)) × (index < streams) ⌝ }
     ensures { λ r. ⌜ r ≡ cyclicOf (now (regs .entry)) index ⌝ }
 {
     let base = registers::STREAM_BASE + registers::STREAM_SIZE * index;
@@ -87,8 +87,8 @@ fn cyclic(regs: &Registers, index: usize) -> Cyclic
 }
 
 // What the registers, the codec and the host end say of stream `index`.
-fn setup_of(regs: &Registers, codec: Codec, index: usize, downstream: u32, limit: u32) -> Setup
-    requires { ⌜ index < streams ⌝ }
+fn setup_of(regs: &[u8], codec: Codec, index: usize, downstream: u32, limit: u32) -> Setup
+    requires { ⌜ (size ≤ length (now regs)) × (index < streams) ⌝ }
     ensures { λ r. ⌜ r ≡ setupOf (now (regs .entry)) codec index downstream limit ⌝ }
 {
     let base = registers::STREAM_BASE + registers::STREAM_SIZE * index;
@@ -317,8 +317,8 @@ impl Engine {
     }
 
     // The engine of a stream that runs, as the registers and the host end have it.
-    fn load(regs: &Registers, host: Host, index: usize, s: Stream) -> Engine
-        requires { ⌜ index < streams ⌝ }
+    fn load(regs: &[u8], host: Host, index: usize, s: Stream) -> Engine
+        requires { ⌜ (size ≤ length (now regs)) × (index < streams) ⌝ }
         ensures { λ r. ⌜ r ≡ engineOf (now (regs .entry)) host index s ⌝ }
     {
         let base = registers::STREAM_BASE + registers::STREAM_SIZE * index;
@@ -333,21 +333,21 @@ impl Engine {
     }
 
     // Status and position into the registers, and RUN cleared where the engine stopped.
-    fn store(self, regs: &mut Registers, index: usize)
-        requires { ⌜ index < streams ⌝ }
+    fn store(self, regs: &mut [u8], index: usize)
+        requires { ⌜ (size ≤ length (now regs)) × (index < streams) ⌝ }
         ensures { λ _. ⌜ now (regs .exit) ≡ storeEngine index self (now (regs .entry)) ⌝ }
     {
         let base = registers::STREAM_BASE + registers::STREAM_SIZE * index;
         regs[base + registers::STS] = self.status;
-        word::put32_in(regs, base + registers::LPIB, self.position);
+        word::put32(regs, base + registers::LPIB, self.position);
         if !self.running {
             regs[base] = regs[base] & 0xfd;
         }
     }
 
     // The end of a turn: the engine back into the registers and its queue back into the host end.
-    fn finish(self, regs: &mut Registers, host: Host, index: usize, refused: bool) -> Turned
-        requires { ⌜ index < streams ⌝ }
+    fn finish(self, regs: &mut [u8], host: Host, index: usize, refused: bool) -> Turned
+        requires { ⌜ (size ≤ length (now regs)) × (index < streams) ⌝ }
         ensures { λ r. ⌜ r ≡ turnedOf refused host index self ⌝ }
         ensures { λ _. ⌜ now (regs .exit) ≡ storeEngine index self (now (regs .entry)) ⌝ }
     {
@@ -381,7 +381,7 @@ pub fn open_stream(host: Host, microphone: bool, index: usize) -> Opening
 
 // The turn of a stream at a supported rate: a refused opening stops it, else it is served.
 fn opened(
-    regs: &mut Registers,
+    regs: &mut [u8],
     codec: Codec,
     opening: Opening,
     index: usize,
@@ -393,7 +393,7 @@ fn opened(
     part: &mut [u8],
     memory: &mut [u8],
 ) -> Turned
-    requires { ⌜ TurnNeeds (opening .host) index limit s (now list) (now part) ⌝ }
+    requires { ⌜ (size ≤ length (now regs)) × TurnNeeds (opening .host) index limit s (now list) (now part) ⌝ }
     ensures { λ r. ⌜ turnOut r (now (regs .exit)) (now (list .exit)) (now (part .exit)) (now (memory .exit)) ≡ openedOf (now (regs .entry)) codec index rate nanos limit s (now (list .entry)) (now (part .entry)) (now (memory .entry)) opening ⌝ }
 {
     let host = opening.host;
@@ -409,7 +409,7 @@ fn opened(
 
 // The turn of stream `index`; `limit` is what its queue may hold, 2,048 bytes for a lone device.
 pub fn turn(
-    regs: &mut Registers,
+    regs: &mut [u8],
     codec: Codec,
     host: Host,
     microphone: bool,
@@ -421,7 +421,7 @@ pub fn turn(
     part: &mut [u8],
     memory: &mut [u8],
 ) -> Turned
-    requires { ⌜ TurnNeeds host index limit s (now list) (now part) ⌝ }
+    requires { ⌜ (size ≤ length (now regs)) × TurnNeeds host index limit s (now list) (now part) ⌝ }
     ensures { λ r. ⌜ turnOut r (now (regs .exit)) (now (list .exit)) (now (part .exit)) (now (memory .exit)) ≡ turnOf (now (regs .entry)) codec host microphone index nanos limit s (now (list .entry)) (now (part .entry)) (now (memory .entry)) ⌝ }
 {
     let base = registers::STREAM_BASE + registers::STREAM_SIZE * index;
@@ -451,8 +451,8 @@ pub fn turn(
 }
 
 // A stream's failure outside a turn, the same as in one.
-pub fn stream_error(regs: &mut Registers, s: Stream, host: Host, index: usize) -> Attached
-    requires { ⌜ index < streams ⌝ }
+pub fn stream_error(regs: &mut [u8], s: Stream, host: Host, index: usize) -> Attached
+    requires { ⌜ (size ≤ length (now regs)) × (index < streams) ⌝ }
     ensures { λ r. ⌜ channelOf (now (regs .exit)) r ≡ errorOf index (channelOf (now (regs .entry)) (attachedOf s host)) ⌝ }
 {
     let e = Engine::load(regs, host, index, s);

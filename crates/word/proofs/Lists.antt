@@ -43,6 +43,14 @@ at-set P [] i v d new past = past
 at-set P (x ∷ l) zero v d new past = new
 at-set P (x ∷ l) (suc i) v d new past = at-set P l i v d new past
 
+-- .. and what held of each holds of each
+pub set-keeps : {A : Type 0} (P : A → Type 0) (l : List A) (i j : ℕ) (v d : A) → P v → P (getD l j d) → P (getD (set l i v) j d)
+set-keeps P [] i j v d p h = h
+set-keeps P (x ∷ l) zero zero v d p h = p
+set-keeps P (x ∷ l) zero (suc j) v d p h = h
+set-keeps P (x ∷ l) (suc i) zero v d p h = h
+set-keeps P (x ∷ l) (suc i) (suc j) v d p h = set-keeps P l i j v d p h
+
 -- a part of a list of bytes, and two joined, are bytes
 pub bytes-take : (n : ℕ) (l : List ℕ) → Bytes l → Bytes (take n l)
 bytes-take zero l h i = omega arith

@@ -18,6 +18,11 @@ unfolding putAt
 put-same n at l fits =
     rw (length-part n at l fits, ← drop-drop n at l, take-append-drop n (drop at l), take-append-drop at l)
 
+-- bytes that come back in the place of a part that was lent are put
+pub put-lent : (at k : ℕ) (bs l : List ℕ) → length bs ≡ k → take at l ++ (bs ++ drop k (drop at l)) ≡ putAt at bs l
+unfolding putAt
+put-lent at k bs l e = rw (drop-drop k at l, ← e)
+
 -- a byte stored is put
 pub set-put : (at v : ℕ) (l : List ℕ) → at < length l → set l at v ≡ putAt at (v ∷ []) l
 unfolding putAt

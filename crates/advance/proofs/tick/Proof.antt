@@ -1,28 +1,32 @@
--- `tick` meets its contract. Assumes nothing.
-use Prim.Native.Nat.{ℕ}
-use mathlib.Core.Path.{ap, subst, _∙_}
+-- `tick` meets its contract: the clock into the record, and its register. Assumes nothing.
+use mathlib.Core.Path.{refl, ap, _∙_}
 use native.Mathlib.Omega.{arith}
 use borrow.Author.Needs.{needs}
-use Rattle.word.specs.Place.{storeAt}
 use Rattle.clock.specs.declared.Clock.{Clock}
-use Rattle.clock.specs.Clock.{advanceOf, shownOf}
-use Rattle.registers.specs.Places.{walclk}
-use Rattle.device.specs.Devices.{withClock}
-use Rattle.record.specs.Loads.{deviceAt, Holds}
-use Rattle.advance.proofs.Outcomes.{clock-there}
+use Rattle.clock.specs.Clock.{advanceOf}
+use Rattle.record.proofs.Theorems.{file-sized}
+use Rattle.record.proofs.Replaced.{regs-lent}
+use Rattle.advance.proofs.Outcomes.{ticks}
 use Rattle.advance.proofs.tick.Statement.{statement}
 use Rattle.advance.proofs.tick.Tie as tie
 
 returns : tie.Need-returns
 returns c =
-    let put = c .before .before .before .before .before in
-    let clock = put .before .before in
-    let a = put .before .before .before .before .before .before .args in
-    let next = clock .advance .ensures ∙ ap (λ (k : Clock). advanceOf k (a .nanos)) (clock .before .load-clock .ensures ∙ clock-there (a .device .now)) in (
-      subst (λ (k : Clock). Holds (put .replace-clock .last .0) (withClock (deviceAt (a .device .now)) k)) next (put .replace-clock .ensures),
-      c .put32-in .ensures ∙ ap (λ (v : ℕ). storeAt 4 walclk v (a .regs .now)) (c .before .shown .ensures ∙ ap shownOf next),
-    )
+    let put = c .before .before .put32 in
+    let shown = c .before .before .before .before .shown in
+    let back = c .before .before .before .before .before .before .before .replace-clock in
+    let next = c .before .before .before .before .before .before .before .before .before .advance in
+    let a = c .before .before .before .before .before .before .before .before .before .before .before .before .before .args in
+    let device₁ = back .last .0 in
+    ticks (a .nanos) (a .device .now) device₁ _ (next .result) (next .ensures ∙ ap (λ (k : Clock). advanceOf k (a .nanos)) (c .before .before .before .before .before .before .before .before .before .before .load-clock .ensures)) (back .ensures) (shown .result) (shown .ensures)
+    (put .last .0) (put .ensures)
+    (regs-lent device₁ (back .ensures .device) (λ i. c .before .before .before .before .before .slice-known2 .given i .fits) (put .last .0) 256 refl (put .kept .0 ∙ file-sized device₁ (back .ensures .device) 262 (omega arith)))
 
 pub tick-spec : {M : Type 1} → statement M
 tick-spec =
-    tie.close (tie.spec (λ c κs. omega arith) (λ c κs. search needs) (λ c κs. search needs) (λ c κs. search needs) (λ c κs. search needs) (λ c. search needs) returns)
+    tie.close
+    (tie.spec
+    -- the calls' demands, the registers' part, and the slice's length
+    (λ c κs. omega arith) (λ c κs. search needs) (λ c κs. search needs) (λ c κs. search needs) (λ c. search needs) (λ c. search needs) (λ c. search needs) (λ c κs. search needs)
+    (λ c. search needs)
+    returns)

@@ -1,4 +1,4 @@
--- `pci::write_byte` meets its contract: each answer by the tests that led there. Assumes nothing.
+-- `configuration::write_byte` meets its contract: each answer by the tests that led there. Assumes nothing.
 use mathlib.Core.Path.{sym}
 use borrow.Author.Tests.{ne-eqb}
 use borrow.Author.Needs.{needs}
@@ -6,32 +6,17 @@ use Rattle.configuration.specs.Configuration.{writeByteOf}
 use Rattle.configuration.proofs.write_byte.Statement.{statement}
 use Rattle.configuration.proofs.write_byte.Tie as tie
 
-replaces-requires : tie.Need-replaces-requires
-replaces-requires c κs = search needs
-
-element-write-config : tie.Need-element-write-config
-element-write-config c = search needs
-
 returns : tie.Need-returns
 unfolding writeByteOf
 returns c = rw (← c .before .replaces .ensures, c .if1 .taken)
-
-element-write-config-2 : tie.Need-element-write-config-2
-element-write-config-2 c = search needs
 
 returns-2 : tie.Need-returns-2
 unfolding writeByteOf
 returns-2 c = rw (c .if2 .taken)
 
-element-write-config-3 : tie.Need-element-write-config-3
-element-write-config-3 c = search needs
-
 returns-3 : tie.Need-returns-3
 unfolding writeByteOf
 returns-3 c = rw (c .if3 .taken)
-
-element-write-config-4 : tie.Need-element-write-config-4
-element-write-config-4 c = search needs
 
 returns-4 : tie.Need-returns-4
 unfolding writeByteOf
@@ -47,13 +32,13 @@ pub write-byte-spec : {M : Type 1} → statement M
 write-byte-spec =
     tie.close
     (tie.spec
-    replaces-requires
-    element-write-config
+    (λ c κs. search needs)
+    (λ c. search needs) (λ c. search needs)
     returns
-    element-write-config-2
+    (λ c. search needs) (λ c. search needs)
     returns-2
-    element-write-config-3
+    (λ c. search needs) (λ c. search needs)
     returns-3
-    element-write-config-4
+    (λ c. search needs) (λ c. search needs)
     returns-4
     returns-5)

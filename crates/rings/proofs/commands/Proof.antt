@@ -9,13 +9,13 @@ use Rattle.rings.proofs.commands.Tie as tie
 
 returns : tie.Need-returns
 returns c =
-    let a = c .before .before .before .before .args in
+    let a = c .before .before .before .before .before .args in
     commands-stopped (a .dma) (ringsOf (a .regs .now) (a .link) (a .memory .now)) (sym (c .before .running .ensures) ∙ not-true _ (c .if1 .taken))
 
 returns-2 : tie.Need-returns-2
 returns-2 c =
-    let runs = c .before .before .before .before .before in
-    let a = runs .before .before .before .before .args in
+    let runs = c .before .before .before .before .before .before in
+    let a = runs .before .before .before .before .before .args in
     c .idle .ensures (a .memory .now)
     ∙ commands-caught-up (a .dma) (ringsOf (a .regs .now) (a .link) (a .memory .now)) (sym (runs .before .running .ensures) ∙ not-false _ (runs .if1 .left))
     (sym (c .before .before .before .caught-up .ensures) ∙ c .before .before .if2 .taken)
@@ -23,8 +23,8 @@ returns-2 c =
 returns-3 : tie.Need-returns-3
 returns-3 c =
     let fetched = c .before .before .before .before in
-    let runs = fetched .before .before .before .before .before .before in
-    let a = runs .before .before .before .before .args in
+    let runs = fetched .before .before .before .before .before .before .before in
+    let a = runs .before .before .before .before .before .args in
     c .idle2 .ensures _
     ∙ ap idleOf (fetched .fetches .ensures)
     ∙ commands-done (a .dma) (ringsOf (a .regs .now) (a .link) (a .memory .now)) (sym (runs .before .running .ensures) ∙ not-false _ (runs .if1 .left))

@@ -26,7 +26,7 @@ abbrev μ-loop : tie.MeasureT-loop
 
 -- after the command is fetched: the turn, the rings at its head, and that a command waits
 abbrev Turn : tie.After-fetch Inv-loop μ-loop → tie.In-loop Inv-loop μ-loop
-Turn c = c .before .before .before .before .before .before
+Turn c = c .before .before .before .before .before .before .before
 
 abbrev Here : tie.After-fetch Inv-loop μ-loop → Rings
 Here c = let l = Turn c .before .loop in ringsOf (l .regs) (l .link) (l .memory)
@@ -46,7 +46,7 @@ loop-holds c =
 
 returns : tie.Need-returns Inv-loop μ-loop
 returns c =
-    let l = c .before .before .before .before .loop in
+    let l = c .before .before .before .before .before .loop in
     sym (fetches-rest (ringsOf (l .regs) (l .link) (l .memory)) (l .left) (sym (c .before .caught-up .ensures) ∙ c .if1 .taken)) ∙ l .inv .2
 
 returns-2 : tie.Need-returns-2 Inv-loop μ-loop

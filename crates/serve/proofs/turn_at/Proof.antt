@@ -1,120 +1,74 @@
--- `turn_at` meets its contract: the codec and the microphone are the record's. Assumes nothing.
-use Prim.Native.Nat.{_+_, _-_, _*_}
-use mathlib.Core.Path.{ap}
+-- `turn_at` meets its contract: stream, codec and microphone are the record's, and registers and stream go back into it. Assumes nothing.
+use Prim.Native.Nat.{_+_, _-_, _*_, _≤_}
+use mathlib.Core.Path.{refl, sym, ap, _∙_}
 use native.Mathlib.Omega.{arith}
 use borrow.Author.Needs.{needs}
-use Rattle.stream.specs.Streams.{listSize, freshOf}
+use Rattle.stream.specs.Streams.{listSize}
 use Rattle.queue.specs.Queues.{capacity}
 use Rattle.rings.specs.declared.Link.{Link}
+use Rattle.turn.specs.Turns.{Turn}
+use Rattle.turn.proofs.Leaves.{turn-listed}
+use Rattle.device.specs.declared.Hda.{Hda}
+use Rattle.device.specs.Devices.{withStream}
+use Rattle.device.specs.Machines.{machine}
 use Rattle.record.specs.Loads.{deviceAt}
-use Rattle.serve.specs.Serve.{bankOf}
+use Rattle.record.proofs.Theorems.{record-sized, file-sized, stream-loaded}
+use Rattle.record.proofs.Replaced.{regs-lent}
 use Rattle.serve.proofs.Turns.{turn-needs, turn-taken}
 use Rattle.serve.proofs.turn_at.Statement.{statement}
 use Rattle.serve.proofs.turn_at.Tie as tie
 
-mul-list : tie.Need-mul-list
-mul-list c = search needs
-
-add-list-end : tie.Need-add-list-end
-add-list-end c = search needs
-
-mul-part : tie.Need-mul-part
-mul-part c = search needs
-
-add-part-end : tie.Need-add-part-end
-add-part-end c = search needs
-
-mul-s : tie.Need-mul-s
-mul-s c = search needs
-
-array-copy-out-s : tie.Need-array-copy-out-s
-array-copy-out-s c = search needs
-
-load-link-requires : tie.Need-load-link-requires
-load-link-requires c κs = search needs
-
-shared-slice-read-microphone : tie.Need-shared-slice-read-microphone
-shared-slice-read-microphone c = search needs
-
-cast-turn : tie.Need-cast-turn
-cast-turn c = search needs
-
-sub-turn : tie.Need-sub-turn
-sub-turn c = search needs
-
-part-turn-start : tie.Need-part-turn-start
-part-turn-start c = search needs
-
-part-turn-end : tie.Need-part-turn-end
-part-turn-end c = search needs
-
-sub-turn-2 : tie.Need-sub-turn-2
-sub-turn-2 c = search needs
-
-part-turn-start-2 : tie.Need-part-turn-start-2
-part-turn-start-2 c = search needs
-
-part-turn-end-2 : tie.Need-part-turn-end-2
-part-turn-end-2 c = search needs
-
 turn-requires : tie.Need-turn-requires
-unfolding freshOf
 turn-requires c κs =
-    let s = c .before .before .before .before .before .before .before .before .before .before .before .before in
-    let i = s .args .index in
-    turn-needs _ i (listSize * i + listSize - listSize * i) (capacity * i + capacity - capacity * i) (s .pre .3) (s .pre .1) (omega arith) (omega arith)
-
-mul-bank : tie.Need-mul-bank
-mul-bank c = omega (arith, c .before .before .before .before .before .before .before .before .before .before .before .before .before .before .before .before .before .before .before .before .pre .1)
-
-array-set-from-bank : tie.Need-array-set-from-bank
-array-set-from-bank c = search (needs, c .before .before .before .before .before .before .before .before .before .before .before .before .before .before .before .before .before .before .before .before .pre .1)
-
-same-length : tie.Need-same-length
-same-length c = search needs
-
-same-length-2 : tie.Need-same-length-2
-same-length-2 c = search needs
-
-same-length-3 : tie.Need-same-length-3
-same-length-3 c = search needs
-
-returns : tie.Need-returns
-unfolding freshOf deviceAt
-returns c =
-    let p = c .before .before .before .before .before .before .before .before in
-    let o = p .turn .last .1 .1 .1 .1 .1 .1 .1 .1 in
-    let loaded = p .before .before .before .before .before .before .before .load-link in
-    let start = c .before .before .before .before .before .before .before .before .before .before .before .before .before .before .before .before .before .before .before .before .before in
+    let start = c .before .before .before .before .before .before .before .before .before .before .before .before .before .before in
     let a = start .args in
     let i = a .index in
-    turn-taken (a .nanos) i (bankOf (a .device .now) (a .regs .now) (a .t3)) (a .host) (a .lists .now) (a .queues .now) (a .memory .now) (loaded .result .codec)
-    (listSize * i + listSize - listSize * i) (capacity * i + capacity - capacity * i) (p .turn .result) (p .turn .last .0) (o .0) (o .1 .0) (o .1 .1 .0)
-    (start .pre .2) (ap (λ (l : Link). l .codec) (loaded .ensures)) (omega arith) (omega arith) (p .turn .ensures)
+    let x = machine (deviceAt (a .device .now)) (a .host) (a .lists .now) (a .queues .now) (a .memory .now) in
+    (search needs, rw (c .before .before .before .before .before .before .before .before .load-stream .ensures ∙ sym (stream-loaded (a .device .now) i (start .pre .2))) (turn-needs x i (listSize * i + listSize - listSize * i) (capacity * i + capacity - capacity * i) (start .pre .4) (start .pre .2) (omega arith) (omega arith)))
+
+replace-stream-requires : tie.Need-replace-stream-requires
+replace-stream-requires c κs =
+    let t = c .before .before .before .before .before .before .before .before .before .before .turn in
+    let s = c .before .before .before .before .before .before .before .before .before .before .before .before .before .before .before .before .before .before .before .load-stream in
+    let known = c .before .before .before .before .before .before .before .before .before .before .before .before .before .before .before .before .before .before .before .before .before .before .before .before in
+    let start = known .before in
+    let a = start .args in
+    let i = a .index in
+    let b = a .device .now in
+    let few : s .result .descriptor ≤ 255 = rw (s .ensures ∙ sym (stream-loaded b i (start .pre .2))) (start .pre .4 .listed i (start .pre .2)) in
+    let h = regs-lent b (start .pre .1) (λ j. known .slice-known .given j .fits) (t .last .0) 256 refl (t .kept .0 ∙ file-sized b (start .pre .1) 262 (omega arith)) in
+    (record-sized _ (h .device), h .device, start .pre .2, rw (ap (λ (x : Turn). x .turned .stream .descriptor) (t .ensures)) (turn-listed _ _ _ _ _ _ _ _ _ _ _ few))
+
+returns : tie.Need-returns
+unfolding deviceAt
+returns c =
+    let put = c .before .before .before .replace-stream in
+    let t = c .before .before .before .before .before .before .before .before .before .before .before .before .before .before .turn in
+    let link = c .before .before .before .before .before .before .before .before .before .before .before .before .before .before .before .before .before .before .before .before .before .load-link in
+    let s = c .before .before .before .before .before .before .before .before .before .before .before .before .before .before .before .before .before .before .before .before .before .before .before .load-stream in
+    let known = c .before .before .before .before .before .before .before .before .before .before .before .before .before .before .before .before .before .before .before .before .before .before .before .before .before .before .before .before in
+    let start = known .before in
+    let a = start .args in
+    let i = a .index in
+    let b = a .device .now in
+    let o = t .last .1 .1 .1 .1 .1 .1 .1 .1 in
+    let h = regs-lent b (start .pre .1) (λ j. known .slice-known .given j .fits) (t .last .0) 256 refl (t .kept .0 ∙ file-sized b (start .pre .1) 262 (omega arith)) in (
+      turn-taken (a .nanos) i (deviceAt b) (a .host) (a .lists .now) (a .queues .now) (a .memory .now) (link .result .codec) (s .result) _
+          (listSize * i + listSize - listSize * i) (capacity * i + capacity - capacity * i) (t .result) (t .last .0) (o .0) (o .1 .0) (o .1 .1 .0)
+          (start .pre .3) (ap (λ (l : Link). l .codec) (link .ensures)) (s .ensures ∙ sym (stream-loaded b i (start .pre .2))) refl (omega arith) (omega arith) (t .ensures)
+          (deviceAt (put .last .0)) (put .ensures .same ∙ ap (λ (d : Hda). withStream d i (t .result .stream)) (h .same)),
+      put .ensures .device,
+    )
 
 pub turn-at-spec : {M : Type 1} → statement M
 turn-at-spec =
     tie.close
     (tie.spec
-    mul-list
-    add-list-end
-    mul-part
-    add-part-end
-    mul-s
-    array-copy-out-s
-    load-link-requires
-    shared-slice-read-microphone
-    cast-turn
-    sub-turn
-    part-turn-start
-    part-turn-end
-    sub-turn-2
-    part-turn-start-2
-    part-turn-end-2
+    -- the places of the stream and of its parts, what the loads require, and the parts that are lent
+    (λ c. search needs) (λ c. search needs) (λ c. search needs) (λ c. search needs) (λ c. search needs) (λ c. search needs) (λ c κs. search needs) (λ c κs. search needs)
+    (λ c. search needs) (λ c. search needs) (λ c. search needs) (λ c. search needs) (λ c. search needs) (λ c. search needs) (λ c. search needs) (λ c. search needs)
+    (λ c. search needs) (λ c. search needs) (λ c. search needs)
     turn-requires
-    mul-bank
-    array-set-from-bank
-    same-length
-    same-length-2
-    same-length-3
+    replace-stream-requires
+    (λ c. search needs) (λ c. search needs) (λ c. search needs) (λ c. search needs)
     returns)
