@@ -118,7 +118,7 @@ pub fn level_in(config: &[u8], regs: &[u8]) -> bool
     requires { ⌜ (256 ≤ length (now config)) × (size ≤ length (now regs)) ⌝ }
     ensures { λ r. ⌜ r ≡ levelOf (now (config .entry)) (now (regs .entry)) ⌝ }
 {
-    // Without a line to raise, the registers need not be asked.
+    // Without a line to raise, or none enabled, the sources need not be asked.
     if uses_messages(config) {
         return false;
     }
@@ -126,6 +126,9 @@ pub fn level_in(config: &[u8], regs: &[u8]) -> bool
         return false;
     }
     let control = word::get32(regs, registers::INTCTL);
+    if control & GLOBAL == 0 {
+        return false;
+    }
     pending(status(regs), control)
 }
 

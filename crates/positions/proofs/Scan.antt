@@ -1,11 +1,12 @@
 -- The turns of a scan: at place `i`, where `x` is read, and at the end. Assumes nothing.
 use Prim.Native.Nat.{ℕ, suc, _+_, _*_, _<_, _≤_}
-use mathlib.Core.Path.{_≡_, sym, ap, _∙_}
+use mathlib.Core.Path.{_≡_, refl, sym, ap, _∙_}
 use mathlib.Core.List.{List, [], _∷_}
-use mathlib.Core.Bool.{true, false}
+use mathlib.Core.Bool.{Bool, true, false, _&&_, and-false}
 use native.Mathlib.Omega.{arith}
 use native.Mathlib.Numerals.{add-one}
-use borrow.Author.Tests.{le-leb, lt-leb, lt-ltb, le-ltb}
+use borrow.Author.Tests.{leb-true, le-leb, lt-leb, lt-ltb, le-ltb}
+use lib.Dec.{leb}
 use lib.ListN.{length, drop, drop-of-length-le}
 use lib.Seq.{drop-cons}
 use Rattle.word.specs.Place.{wordAt}
@@ -29,17 +30,19 @@ module _ (n : ℕ) (l : List ℕ) (i x : ℕ) (h : i < n) (ex : x ≡ wordAt 8 (
   up-stop c k = ap (upToOf c) seen ∙ rw (lt-leb x c k)
 
   module _ (lo hi : ℕ) where
-    pub rise-more : lo < x → x ≤ hi → risesOf lo (drop i (positionsOf n l)) hi ≡ risesOf x (drop (i + 1) (positionsOf n l)) hi
+    -- whether `lo` is at most `hi` need not be known where `x` is above it
+    pub rise-more : (known : Bool) → (leb lo hi ≡ true → known ≡ true) → lo < x
+        → (known && risesOf lo (drop i (positionsOf n l)) hi) ≡ (leb x hi && risesOf x (drop (i + 1) (positionsOf n l)) hi)
     unfolding risesOf
-    rise-more k₁ k₂ = ap (λ (xs : List ℕ). risesOf lo xs hi) seen ∙ rw (lt-ltb lo x k₁, le-leb x hi k₂)
+    rise-more known so k = ap (λ (xs : List ℕ). known && risesOf lo xs hi) seen ∙ rw (lt-ltb lo x k) (go (leb x hi) refl)
+      where
+        go : (b : Bool) → leb x hi ≡ b → (known && (b && risesOf x (drop (i + 1) (positionsOf n l)) hi)) ≡ (b && risesOf x (drop (i + 1) (positionsOf n l)) hi)
+        go true e = let within = leb-true x hi e in rw (so (le-leb lo hi (omega arith)))
+        go false e = and-false known
 
     pub rise-low : x ≤ lo → risesOf lo (drop i (positionsOf n l)) hi ≡ false
     unfolding risesOf
     rise-low k = ap (λ (xs : List ℕ). risesOf lo xs hi) seen ∙ rw (le-ltb lo x k)
-
-    pub rise-high : lo < x → hi < x → risesOf lo (drop i (positionsOf n l)) hi ≡ false
-    unfolding risesOf
-    rise-high k₁ k₂ = ap (λ (xs : List ℕ). risesOf lo xs hi) seen ∙ rw (lt-ltb lo x k₁, lt-leb x hi k₂)
 
 -- the end of a scan
 module _ (n : ℕ) (l : List ℕ) (i : ℕ) (h : n ≤ i) where

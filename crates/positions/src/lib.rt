@@ -26,13 +26,11 @@ pub fn rises(list: &[u8], n: usize, lo: u64, hi: u64) -> bool
         if x <= last {
             return false;
         }
-        if x > hi {
-            return false;
-        }
         last = x;
         i += 1;
     }
-    true
+    // Of positions that rise, the last is the highest.
+    (n == 0) | (last <= hi)
 }
 
 // How many of the first n positions, from the front, are at most c.

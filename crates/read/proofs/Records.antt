@@ -5,7 +5,6 @@ use mathlib.Core.Bool.{Bool, false, _&&_}
 use mathlib.Core.List.{List}
 use mathlib.Core.Logic.{_≢_}
 use native.Mathlib.Omega.{arith}
-use native.Mathlib.Nat.{zero-add}
 use borrow.Author.Tests.{lt-ltb, le-ltb, lt-leb, le-leb, eq-eqb, ne-eqb}
 use lib.Dec.{eqb}
 use lib.ListN.{take, drop}
@@ -18,7 +17,6 @@ use Rattle.stream.specs.Streams as stream
 use Rattle.stream.specs.Box.{streams}
 use Rattle.stream.specs.Streams.{listSize}
 use Rattle.configuration.specs.Configuration.{identity}
-use Rattle.device.specs.Devices as devices
 use Rattle.device.specs.Devices.{streamValid, streamsValid, validOf}
 use Rattle.record.specs.Loads.{streamAt, deviceAt}
 use Rattle.record.proofs.Theorems.{stream-loaded}

@@ -27,11 +27,11 @@ use Rattle.device.specs.Devices.{hda, withConfig, withRegs, withLink, withStrea
 use Rattle.record.specs.Layout.{latchPlace, deviceSize}
 use Rattle.record.specs.Rows.{rowOf}
 use Rattle.record.specs.Devices.{mark, flag, headOf, numbersOf, streamsBytes, deviceBytes}
-use Rattle.record.specs.Loads.{streamAt, deviceAt, isDevice, Holds}
+use Rattle.record.specs.Loads.{blockAt, streamAt, deviceAt, isDevice, Holds}
 use Rattle.record.specs.Typed.{Fits, Sized, TypedStream, TypedDevice}
 use Rattle.record.proofs.Sizes.{length-head, length-numbers, length-streams, length-device}
 use Rattle.record.proofs.Rows.{runs-but}
-use Rattle.record.proofs.Theorems.{tailOf, timesOf, regrouped, device-stored, device-record, record-sized, stream-loaded, device-loaded}
+use Rattle.record.proofs.Theorems.{tailOf, timesOf, regrouped, device-stored, device-record, record-sized, file-sized, stream-loaded, device-loaded}
 
 -- a run put over one of its length
 over : (at : ℕ) (new l front old rest : List ℕ) → l ≡ front ++ (old ++ rest) → length front ≡ at → length new ≡ length old → putAt at new l ≡ front ++ (new ++ rest)
@@ -230,13 +230,16 @@ module _ (b : List ℕ) (r : isDevice b ≡ true) (h : Bytes b) where
       held (withRegs d regs) (files-typed (d .config) regs (d .asserted) (t .sized .config) e) p (ep ∙ ap (putAt 262 regs) whole ∙ put-regs d (t .sized) regs e)
 
   -- files that were lent where they stand
-  pub regs-lent : (regs : List ℕ) (k : ℕ) → k ≡ 256 → length regs ≡ 256 → Holds (take 262 b ++ (regs ++ drop k (drop 262 b))) (withRegs d regs)
-  regs-lent regs k ek e = regs-held regs e _ (put-lent 262 k regs b (omega arith))
+  pub regs-lent : (regs : List ℕ) → length regs ≡ length (blockAt 262 b) → Holds (take 262 b ++ (regs ++ drop 256 (drop 262 b))) (withRegs d regs)
+  regs-lent regs e =
+      let size : length regs ≡ 256 = e ∙ file-sized b r 262 (omega arith) in
+      regs-held regs size _ (put-lent 262 256 regs b size)
 
-  pub config-lent : (config : List ℕ) (k : ℕ) → k ≡ 256 → length config ≡ 256 → Holds (take 6 b ++ (config ++ drop k (drop 6 b))) (withConfig d config)
-  config-lent config k ek e =
-      held (withConfig d config) (files-typed config (d .regs) (d .asserted) e (t .sized .regs)) _
-      (put-lent 6 k config b (omega arith) ∙ ap (putAt 6 config) whole ∙ put-config d (t .sized) config e)
+  pub config-lent : (config : List ℕ) → length config ≡ length (blockAt 6 b) → Holds (take 6 b ++ (config ++ drop 256 (drop 6 b))) (withConfig d config)
+  config-lent config e =
+      let size : length config ≡ 256 = e ∙ file-sized b r 6 (omega arith) in
+      held (withConfig d config) (files-typed config (d .regs) (d .asserted) size (t .sized .regs)) _
+      (put-lent 6 256 config b size ∙ ap (putAt 6 config) whole ∙ put-config d (t .sized) config size)
 
   pub latch-held : (asserted : Bool) (v : ℕ) → v ≡ flag asserted → Holds (set b latchPlace v) (withAsserted d asserted)
   latch-held asserted v e =

@@ -1,13 +1,13 @@
 -- Silence, and the outcome of each function from what its tests and calls leave. Assumes nothing.
 use Prim.Native.Nat.{ℕ, zero, suc, _-_, _%_, _≤_, _<_}
 use mathlib.Core.Path.{_≡_, refl, sym, ap, _∙_, subst}
-use mathlib.Core.Bool.{Bool, true, false, cond, true≢false}
+use mathlib.Core.Bool.{Bool, true, false, cond, not, true≢false, _&&_, and-true, and-false}
 use mathlib.Core.List.{List, _∷_, _++_}
 use native.Mathlib.Omega.{arith}
 use borrow.Author.Tests.{eqb-false}
 use lib.Dec.{leb, eqb}
 use lib.ListN.{length, take, drop, length-replicate}
-use Rattle.word.proofs.Choices.{if-true, if-false}
+use Rattle.word.proofs.Choices.{if-true, cond-map}
 use Rattle.gain.specs.Gain.{gainOf, amplifiedOf}
 use Rattle.stream.specs.declared.Stream.{Stream}
 use Rattle.stream.specs.declared.Cyclic.{Cyclic}
@@ -16,7 +16,7 @@ use Rattle.plan.specs.Plans.{readyOf}
 use Rattle.pieces.specs.Pieces.{Out, stateOf, piecesOf}
 use Rattle.queue.specs.declared.Queue.{Queue}
 use Rattle.queue.specs.Queues.{Moved, Taken, putOf, takeOf, takeIntoOf}
-use Rattle.transfer.specs.Transfers.{Transfer, transferOut, withPieces, silence, takenOf, capturedOf, captureOf, heardOf, queuedOf, playbackOf, transferOf}
+use Rattle.transfer.specs.Transfers.{Transfer, transferOut, withPieces, silence, takenOf, capturedOf, captureOf, heardOf, queuedOf, Queued, queuedIn, queuedBy, playbackOf, framesMoved, transferOf}
 
 pub take-silence : (n k : ℕ) → n ≤ k → take n (silence k) ≡ silence n
 take-silence zero k h = refl
@@ -81,8 +81,27 @@ module _ (q : Queue) (connected : Bool) (left right : ℕ) (part pcm : List ℕ)
       subst (λ (b : Bool). Captures q b left right part (length pcm) (t .moved .queue) (t .moved .part) pcm′) (sym e)
       (ap (λ (m : Moved). m .queue) (take-leaves q part pcm t et), (ap (λ (m : Moved). m .part) (take-leaves q part pcm t et), ea ∙ ap (amplifiedOf (gainOf left) (gainOf right)) (take-fills q part pcm t et silent)))
 
+-- what is left in the queue is no more than there was
+pub taken-few : (connected : Bool) (q : Queue) (part : List ℕ) (count n : ℕ) → q .length ≤ n → takenOf connected q part count .queue .length ≤ n
+unfolding takeOf
+taken-few true q part count n h = omega (arith, h)
+taken-few false q part count n h = h
+
+-- what `queued` leaves: nothing queued, or the samples heard
+module _ (plays : Bool) (q : Queue) (connected : Bool) (left right : ℕ) (part pcm : List ℕ) where
+  pub queued-none : plays ≡ false → queuedIn q part pcm ≡ queuedBy plays q connected left right part pcm
+  queued-none e = rw e
+
+  pub queued-put : (heard : List ℕ) (p : Moved) → plays ≡ true → heard ≡ heardOf connected left right pcm (length pcm) → length heard ≡ length pcm → p ≡ putOf q part heard (length heard)
+      → queuedIn (p .queue) (p .part) heard ≡ queuedBy plays q connected left right part pcm
+  queued-put heard p e eh el ep =
+      let own : p ≡ putOf q part heard (length pcm) = ep ∙ ap (putOf q part heard) el in
+      ap (λ (x : Moved). queuedIn (x .queue) (x .part) heard) own
+      ∙ ap (λ (h : List ℕ). let put = putOf q part h (length pcm) in queuedIn (put .queue) (put .part) h) eh
+      ∙ if-true _ (queuedIn q part pcm) e refl
+
 module _ (g : Cyclic) (s : Stream) (q : Queue) (connected : Bool) (left right : ℕ) (l part m : List ℕ) (count : ℕ) where
-  pub capture-left : (q′ : Queue) (part′ pcm : List ℕ) (o : Out) → let taken = takenOf connected q part count in
+  capture-left : (q′ : Queue) (part′ pcm : List ℕ) (o : Out) → let taken = takenOf connected q part count in
       q′ ≡ taken .queue → part′ ≡ taken .part → pcm ≡ capturedOf connected left right part taken count → o ≡ piecesOf count g count (stateOf s l m pcm 0)
       → withPieces o q′ part′ ≡ captureOf g s q connected left right l part m count
   unfolding captureOf
@@ -97,31 +116,40 @@ module _ (g : Cyclic) (s : Stream) (q : Queue) (connected : Bool) (left right : 
         subst (λ (x : Out). t ≡ queuedOf x (putOf q part (heardOf connected left right (x .state .pcm) count) count) q part)
         (eo ∙ ap (λ (b : List ℕ). piecesOf count g count (stateOf s l m b 0)) silent) e
 
-    pub playback-failed : o .ok ≡ false → withPieces o q part ≡ playbackOf g s q connected left right l part m count
-    playback-failed z =
-        let p = putOf q part (heardOf connected left right (o .state .pcm) count) count in
-        from-pieces (withPieces o q part) (if-false (withPieces o (p .queue) (p .part)) (withPieces o q part) z refl)
+    -- .. where nothing was taken before them, and what is queued is a playback's
+    playback-left : (q″ : Queue) (part″ pcm″ : List ℕ) → length (o .state .pcm) ≡ count → queuedIn q″ part″ pcm″ ≡ queuedBy (o .ok) q connected left right part (o .state .pcm)
+        → withPieces o q″ part″ ≡ playbackOf g s q connected left right l part m count
+    playback-left q″ part″ pcm″ whole e =
+        let last = o .state .pcm in
+        let sized : ℕ → Moved = λ n. putOf q part (heardOf connected left right last n) n in
+        let put = sized (length last) in
+        from-pieces (withPieces o q″ part″)
+        (ap (λ (x : Queued). withPieces o (x .queue) (x .part)) e
+        ∙ cond-map (λ (x : Queued). withPieces o (x .queue) (x .part)) (o .ok) (queuedIn (put .queue) (put .part) (heardOf connected left right last (length last))) (queuedIn q part last)
+        ∙ ap (λ (n : ℕ). queuedOf o (sized n) q part) whole)
 
-    pub playback-queued : (pcm′ : List ℕ) (p : Moved) → o .ok ≡ true → length (o .state .pcm) ≡ count → length pcm′ ≡ length (o .state .pcm)
-        → pcm′ ≡ heardOf connected left right (o .state .pcm) (length (o .state .pcm)) → p ≡ putOf q part pcm′ (length pcm′)
-        → withPieces o (p .queue) (p .part) ≡ playbackOf g s q connected left right l part m count
-    playback-queued pcm′ p z whole same eb ep =
-        let heard : pcm′ ≡ heardOf connected left right (o .state .pcm) count = eb ∙ ap (heardOf connected left right (o .state .pcm)) whole in
-        let put : p ≡ putOf q part (heardOf connected left right (o .state .pcm) count) count
-        = ep ∙ ap (putOf q part pcm′) (same ∙ whole) ∙ ap (λ (b : List ℕ). putOf q part b count) heard in
-        from-pieces (withPieces o (p .queue) (p .part))
-        (if-true (withPieces o (p .queue) (p .part)) (withPieces o q part) z refl ∙ ap (λ (x : Moved). queuedOf o x q part) put)
+  -- a capture's samples before the pieces, a playback's queue after them
+  module _ (q′ : Queue) (part′ pcm′ : List ℕ) (o : Out) (eo : o ≡ piecesOf count g count (stateOf s l m pcm′ 0)) (whole : length (o .state .pcm) ≡ count) (q″ : Queue) (part″ pcm″ : List ℕ) where
+    abbrev Left : Bool → Type 0
+    Left b =
+        Captures q (b && connected) left right part count q′ part′ pcm′ → queuedIn q″ part″ pcm″ ≡ queuedBy (o .ok && not b) q′ connected left right part′ (o .state .pcm)
+        → withPieces o q″ part″ ≡ cond b (captureOf g s q connected left right l part m count) (playbackOf g s q connected left right l part m count)
+
+    by-direction : (b : Bool) → Left b
+    by-direction true k e =
+        let none : queuedIn q″ part″ pcm″ ≡ queuedIn q′ part′ (o .state .pcm) = rw (and-false (o .ok)) at e in
+        ap (λ (x : Queued). withPieces o (x .queue) (x .part)) none ∙ capture-left q′ part′ pcm′ o (k .0) (k .1 .0) (k .1 .1) eo
+    by-direction false k e =
+        let same : queuedIn q″ part″ pcm″ ≡ queuedBy (o .ok) q connected left right part (o .state .pcm) = rw (and-true (o .ok), k .0, k .1 .0) at e in
+        playback-left pcm′ (k .1 .1) o eo q″ part″ pcm″ whole same
+
+    pub frames-moved : Left (g .capture)
+    frames-moved = by-direction (g .capture)
 
   pub transfer-unready : readyOf g ≡ false → transferOut false false s q l part m ≡ transferOf g s q connected left right l part m count
   unfolding transferOf
   transfer-unready e = rw e
 
-  pub transfer-captures : (t : Transfer) → readyOf g ≡ true → g .capture ≡ true → t ≡ captureOf g s q connected left right l part m count
-      → t ≡ transferOf g s q connected left right l part m count
+  pub transfer-ready : readyOf g ≡ true → framesMoved g s q connected left right l part m count ≡ transferOf g s q connected left right l part m count
   unfolding transferOf
-  transfer-captures t e ec et = rw e (et ∙ if-true (captureOf g s q connected left right l part m count) (playbackOf g s q connected left right l part m count) ec refl)
-
-  pub transfer-plays : (t : Transfer) → readyOf g ≡ true → g .capture ≡ false → t ≡ playbackOf g s q connected left right l part m count
-      → t ≡ transferOf g s q connected left right l part m count
-  unfolding transferOf
-  transfer-plays t e ec et = rw e (et ∙ if-false (captureOf g s q connected left right l part m count) (playbackOf g s q connected left right l part m count) ec refl)
+  transfer-ready e = rw e

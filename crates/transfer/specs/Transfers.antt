@@ -55,17 +55,35 @@ heardOf connected left right pcm count = cond connected (amplifiedOf (gainOf lef
 abbrev pub queuedOf : Out → Moved → Queue → List ℕ → Transfer
 queuedOf o put q part = cond (o .ok) (withPieces o (put .queue) (put .part)) (withPieces o q part)
 
+-- the queue, its part and the samples, where a stream plays and no piece failed, and else
+pub record Queued : Type 0 where
+  pub queue : Queue
+  pub part : List ℕ
+  pub pcm : List ℕ
+
+abbrev pub queuedIn : Queue → List ℕ → List ℕ → Queued
+queuedIn q part pcm = record { queue = q; part = part; pcm = pcm }
+
+abbrev pub queuedBy : Bool → Queue → Bool → ℕ → ℕ → List ℕ → List ℕ → Queued
+queuedBy plays q connected left right part pcm =
+    let heard = heardOf connected left right pcm (length pcm) in
+    let put = putOf q part heard (length pcm) in
+    cond plays (queuedIn (put .queue) (put .part) heard) (queuedIn q part pcm)
+
 unfoldable pub playbackOf : Cyclic → Stream → Queue → Bool → ℕ → ℕ → List ℕ → List ℕ → List ℕ → ℕ → Transfer
 playbackOf g s q connected left right l part m count =
     let o = piecesOf count g count (stateOf s l m (silence count) 0) in
     queuedOf o (putOf q part (heardOf connected left right (o .state .pcm) count) count) q part
 
+-- a capture or a playback
+abbrev pub framesMoved : Cyclic → Stream → Queue → Bool → ℕ → ℕ → List ℕ → List ℕ → List ℕ → ℕ → Transfer
+framesMoved g s q connected left right l part m count =
+    cond (g .capture) (captureOf g s q connected left right l part m count) (playbackOf g s q connected left right l part m count)
+
 -- a cyclic buffer that is not ready fails the transfer before anything is moved or taken
 unfoldable pub transferOf : Cyclic → Stream → Queue → Bool → ℕ → ℕ → List ℕ → List ℕ → List ℕ → ℕ → Transfer
 transferOf g s q connected left right l part m count =
-    cond (readyOf g)
-    (cond (g .capture) (captureOf g s q connected left right l part m count) (playbackOf g s q connected left right l part m count))
-    (transferOut false false s q l part m)
+    cond (readyOf g) (framesMoved g s q connected left right l part m count) (transferOut false false s q l part m)
 
 -- what a transfer requires: at most a period, a queue within its capacity, and room for every position and for the queue
 pub record TransferNeeds (q : Queue) (count : ℕ) (list part : List ℕ) : Type 0 where

@@ -6,7 +6,7 @@ ghost use mathlib.Core.Path.{_≡_};
 ghost use Prim.Native.Nat.{_<_, _≤_};
 ghost use lib.ListN.{length};
 ghost use Rattle.queue.specs.Queues.{capacity};
-ghost use Rattle.transfer.specs.Transfers.{leftOf, silence, takenOf, capturedOf, captureOf, heardOf, playbackOf, transferOf, TransferNeeds};
+ghost use Rattle.transfer.specs.Transfers.{leftOf, silence, takenOf, capturedOf, heardOf, queuedIn, queuedBy, framesMoved, transferOf, TransferNeeds};
 
 // What a transfer left beside the lent lists: whether it succeeded, whether the limit of pending completions stopped it, the stream and its queue.
 pub struct Transferred {
@@ -49,34 +49,6 @@ fn captured(
     taken.queue
 }
 
-// A capture of `count` bytes: the samples first, then the pieces that write them into guest memory. `pcm` comes as silence.
-fn capture(
-    g: Cyclic,
-    s: Stream,
-    q: Queue,
-    connected: bool,
-    left: u8,
-    right: u8,
-    list: &mut [u8],
-    part: &mut [u8],
-    memory: &mut [u8],
-    pcm: &mut [u8],
-    count: u32,
-) -> Transferred
-    requires { ⌜ TransferNeeds q count (now list) (now part) × (0 < g .cbl) × (now pcm ≡ silence count) ⌝ }
-    ensures { λ r. ⌜ leftOf r (now (list .exit)) (now (part .exit)) (now (memory .exit)) ≡ captureOf g s q connected left right (now (list .entry)) (now (part .entry)) (now (memory .entry)) count ⌝ }
-{
-    let queue = captured(q, connected, left, right, part, pcm);
-    let step = pieces::pieces(g, s, list, memory, pcm, count);
-    let next = step.stream;
-    Transferred {
-        ok: step.ok,
-        full: step.full,
-        stream: next,
-        queue: queue,
-    }
-}
-
 // What a playback's samples sound like: amplified, or silence where the stream is not connected.
 fn heard(connected: bool, left: u8, right: u8, pcm: &mut [u8])
     ensures { λ _. ⌜ now (pcm .exit) ≡ heardOf connected left right (now (pcm .entry)) (length (now (pcm .entry))) ⌝ }
@@ -88,8 +60,30 @@ fn heard(connected: bool, left: u8, right: u8, pcm: &mut [u8])
     }
 }
 
-// A playback of `count` bytes: the pieces that read guest memory first, then the queue, which takes what fits. `pcm` comes as silence.
-fn playback(
+// A playback's samples behind those queued, and the queue that is left. A capture and a transfer that failed queue nothing.
+fn queued(
+    plays: bool,
+    q: Queue,
+    connected: bool,
+    left: u8,
+    right: u8,
+    part: &mut [u8],
+    pcm: &mut [u8],
+) -> Queue
+    requires { ⌜ (q .length ≤ capacity) × (capacity ≤ length (now part)) ⌝ }
+    ensures { λ r. ⌜ queuedIn r (now (part .exit)) (now (pcm .exit)) ≡ queuedBy plays q connected left right (now (part .entry)) (now (pcm .entry)) ⌝ }
+{
+    if !plays {
+        return q;
+    }
+    heard(connected, left, right, pcm);
+    let put = q.put(part, pcm);
+    put.queue
+}
+
+// A transfer of `count` bytes that is ready: a capture's samples first, then the pieces, which move them between `pcm` and guest memory, then a playback's queue, which takes what
+// fits. `pcm` comes as silence. The pieces are called in this one place, so that the compiler sees both sides of their copies.
+fn move_frames(
     g: Cyclic,
     s: Stream,
     q: Queue,
@@ -103,21 +97,20 @@ fn playback(
     count: u32,
 ) -> Transferred
     requires { ⌜ TransferNeeds q count (now list) (now part) × (0 < g .cbl) × (now pcm ≡ silence count) ⌝ }
-    ensures { λ r. ⌜ leftOf r (now (list .exit)) (now (part .exit)) (now (memory .exit)) ≡ playbackOf g s q connected left right (now (list .entry)) (now (part .entry)) (now (memory .entry)) count ⌝ }
+    ensures { λ r. ⌜ leftOf r (now (list .exit)) (now (part .exit)) (now (memory .exit)) ≡ framesMoved g s q connected left right (now (list .entry)) (now (part .entry)) (now (memory .entry)) count ⌝ }
 {
+    let taken = captured(q, g.capture & connected, left, right, part, pcm);
     let step = pieces::pieces(g, s, list, memory, pcm, count);
     let next = step.stream;
-    if !step.ok {
-        return Transferred {
-            ok: step.ok,
-            full: step.full,
-            stream: next,
-            queue: q,
-        };
-    }
-    heard(connected, left, right, pcm);
-    let put = q.put(part, pcm);
-    let queue = put.queue;
+    let queue = queued(
+        step.ok & !g.capture,
+        taken,
+        connected,
+        left,
+        right,
+        part,
+        pcm,
+    );
     Transferred {
         ok: step.ok,
         full: step.full,
@@ -152,22 +145,7 @@ pub fn transfer(
     }
     let mut pcm = [0u8; Stream::PERIOD];
     let n = count as usize;
-    if g.capture {
-        return capture(
-            g,
-            s,
-            q,
-            connected,
-            left,
-            right,
-            list,
-            part,
-            memory,
-            &mut pcm[0..n],
-            count,
-        );
-    }
-    playback(
+    move_frames(
         g,
         s,
         q,

@@ -1,5 +1,4 @@
 -- `after_commands` meets its contract: the turns, then the interrupt. Assumes nothing.
-use mathlib.Core.Path.{_∙_}
 use borrow.Author.Needs.{needs}
 use Rattle.device.specs.Machines.{machine}
 use Rattle.record.specs.Loads.{deviceAt}

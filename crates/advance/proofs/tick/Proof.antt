@@ -1,10 +1,9 @@
 -- `tick` meets its contract: the clock into the record, and its register. Assumes nothing.
-use mathlib.Core.Path.{refl, ap, _∙_}
+use mathlib.Core.Path.{ap, _∙_}
 use native.Mathlib.Omega.{arith}
 use borrow.Author.Needs.{needs}
 use Rattle.clock.specs.declared.Clock.{Clock}
 use Rattle.clock.specs.Clock.{advanceOf}
-use Rattle.record.proofs.Theorems.{file-sized}
 use Rattle.record.proofs.Replaced.{regs-lent}
 use Rattle.advance.proofs.Outcomes.{ticks}
 use Rattle.advance.proofs.tick.Statement.{statement}
@@ -20,7 +19,7 @@ returns c =
     let device₁ = back .last .0 in
     ticks (a .nanos) (a .device .now) device₁ _ (next .result) (next .ensures ∙ ap (λ (k : Clock). advanceOf k (a .nanos)) (c .before .before .before .before .before .before .before .before .before .before .load-clock .ensures)) (back .ensures) (shown .result) (shown .ensures)
     (put .last .0) (put .ensures)
-    (regs-lent device₁ (back .ensures .device) (λ i. c .before .before .before .before .before .slice-known2 .given i .fits) (put .last .0) 256 refl (put .kept .0 ∙ file-sized device₁ (back .ensures .device) 262 (omega arith)))
+    (regs-lent device₁ (back .ensures .device) (λ i. c .before .before .before .before .before .slice-known2 .given i .fits) (put .last .0) (put .kept .0))
 
 pub tick-spec : {M : Type 1} → statement M
 tick-spec =

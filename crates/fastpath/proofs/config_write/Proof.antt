@@ -1,8 +1,7 @@
 -- `config_write` meets its contract: refused by the check, past 64 bits, or carried out. Assumes nothing.
-use mathlib.Core.Path.{refl, _∙_}
 use native.Mathlib.Omega.{arith}
 use borrow.Author.Needs.{needs}
-use Rattle.record.proofs.Theorems.{record-sized, file-sized}
+use Rattle.record.proofs.Theorems.{record-sized}
 use Rattle.record.proofs.Replaced.{config-lent}
 use Rattle.fastpath.specs.Quick.{tried}
 use Rattle.fastpath.proofs.Outcomes.{config-refused, config-past, config-few, config-done}
@@ -34,7 +33,7 @@ conclude-requires c κs =
     let known = k .before .before .before .before .before .before in
     let start = known .before in
     let a = start .args in
-    let h = config-lent (a .device .now) (start .pre .1) (λ i. known .slice-known .given i .fits) (w .last .0) 256 refl (w .kept .0 ∙ file-sized (a .device .now) (start .pre .1) 6 (omega arith)) in
+    let h = config-lent (a .device .now) (start .pre .1) (λ i. known .slice-known .given i .fits) (w .last .0) (w .kept .0) in
     (record-sized _ (h .device), h .device, config-few (a .device .now) (a .lists .now) (a .queues .now) (a .memory .now) (a .host) (k .check .result) (k .check .ensures) (a .register) (a .offset) (a .bytes .now) (c .before .before .before .before .before .before .before .before .if1 .left) (w .last .0) _ (w .ensures) h)
 
 returns-4 : tie.Need-returns-4
@@ -45,7 +44,7 @@ returns-4 c =
     let known = k .before .before .before .before .before .before in
     let start = known .before in
     let a = start .args in
-    let h = config-lent (a .device .now) (start .pre .1) (λ i. known .slice-known .given i .fits) (w .last .0) 256 refl (w .kept .0 ∙ file-sized (a .device .now) (start .pre .1) 6 (omega arith)) in
+    let h = config-lent (a .device .now) (start .pre .1) (λ i. known .slice-known .given i .fits) (w .last .0) (w .kept .0) in
     config-done (a .device .now) (a .lists .now) (a .queues .now) (a .memory .now) (a .host) (k .check .result) (k .check .ensures) (a .register) (a .offset) (a .bytes .now) (c .before .before .before .before .before .before .before .before .before .before .before .before .before .if1 .left) (w .last .0) _ (w .ensures) h (omega (arith, c .before .before .before .before .before .before .before .before .before .before .before .if3 .left, c .before .before .before .before .before .before .before .before .before .before .before .before .if2 .left))
     (tried (z .result) (z .last .0) (z .last .1 .0)) (z .ensures)
 

@@ -12,7 +12,7 @@ use Rattle.device.specs.declared.Hda.{Hda}
 use Rattle.device.specs.Devices.{withStream}
 use Rattle.device.specs.Machines.{machine}
 use Rattle.record.specs.Loads.{deviceAt}
-use Rattle.record.proofs.Theorems.{record-sized, file-sized, stream-loaded}
+use Rattle.record.proofs.Theorems.{record-sized, stream-loaded}
 use Rattle.record.proofs.Replaced.{regs-lent}
 use Rattle.serve.proofs.Turns.{turn-needs, turn-taken}
 use Rattle.serve.proofs.turn_at.Statement.{statement}
@@ -36,7 +36,7 @@ replace-stream-requires c κs =
     let i = a .index in
     let b = a .device .now in
     let few : s .result .descriptor ≤ 255 = rw (s .ensures ∙ sym (stream-loaded b i (start .pre .2))) (start .pre .4 .listed i (start .pre .2)) in
-    let h = regs-lent b (start .pre .1) (λ j. known .slice-known .given j .fits) (t .last .0) 256 refl (t .kept .0 ∙ file-sized b (start .pre .1) 262 (omega arith)) in
+    let h = regs-lent b (start .pre .1) (λ j. known .slice-known .given j .fits) (t .last .0) (t .kept .0) in
     (record-sized _ (h .device), h .device, start .pre .2, rw (ap (λ (x : Turn). x .turned .stream .descriptor) (t .ensures)) (turn-listed _ _ _ _ _ _ _ _ _ _ _ few))
 
 returns : tie.Need-returns
@@ -52,7 +52,7 @@ returns c =
     let i = a .index in
     let b = a .device .now in
     let o = t .last .1 .1 .1 .1 .1 .1 .1 .1 in
-    let h = regs-lent b (start .pre .1) (λ j. known .slice-known .given j .fits) (t .last .0) 256 refl (t .kept .0 ∙ file-sized b (start .pre .1) 262 (omega arith)) in (
+    let h = regs-lent b (start .pre .1) (λ j. known .slice-known .given j .fits) (t .last .0) (t .kept .0) in (
       turn-taken (a .nanos) i (deviceAt b) (a .host) (a .lists .now) (a .queues .now) (a .memory .now) (link .result .codec) (s .result) _
           (listSize * i + listSize - listSize * i) (capacity * i + capacity - capacity * i) (t .result) (t .last .0) (o .0) (o .1 .0) (o .1 .1 .0)
           (start .pre .3) (ap (λ (l : Link). l .codec) (link .ensures)) (s .ensures ∙ sym (stream-loaded b i (start .pre .2))) refl (omega arith) (omega arith) (t .ensures)
