@@ -1,5 +1,4 @@
 -- Laws for the functions' proofs; what every command keeps.
 pub mod WellFormed
 pub mod Values
-pub mod Copies
 pub mod Bytes

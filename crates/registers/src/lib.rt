@@ -4,6 +4,7 @@ use stream::STREAMS;
 ghost use mathlib.Core.Path.{_≡_};
 ghost use Prim.Native.Nat.{_+_, _≤_, _<_};
 ghost use lib.ListN.{length, replicate};
+ghost use lib.Dec.{leb};
 ghost use Rattle.word.specs.Place.{putAt};
 ghost use Rattle.stream.specs.Box.{streams};
 ghost use Rattle.registers.specs.Places.{size, dmaOf};
@@ -191,8 +192,8 @@ fn read_at(regs: &[u8], offset: u64, i: usize) -> u8
     read_byte(regs, offset + (i as u64))
 }
 
-// Bytes from `offset` on, as many as `into` has, of a register file that stands in a slice.
-pub fn read_in(regs: &[u8], offset: u64, into: &mut [u8])
+// Byte by byte, since an address may be an alias, or none.
+fn read_each(regs: &[u8], offset: u64, into: &mut [u8])
     requires { ⌜ size ≤ length (now regs) ⌝ }
     ensures { λ _. ⌜ now (into .exit) ≡ readOf (now (regs .entry)) offset (length (now (into .entry))) ⌝ }
 {
@@ -201,6 +202,27 @@ pub fn read_in(regs: &[u8], offset: u64, into: &mut [u8])
         into[i] = read_at(regs, offset, i);
         i += 1;
     }
+}
+
+// Whether `n` bytes from `offset` on are all in the file.
+fn is_inside(offset: u64, n: usize) -> bool
+    ensures { λ r. ⌜ r ≡ leb (offset + n) size ⌝ }
+{
+    (offset <= SIZE as u64) & (n as u64 <= word::difference(SIZE as u64, offset))
+}
+
+// Bytes from `offset` on, as many as `into` has, of a register file that stands in a slice. Most reads are inside it.
+pub fn read_in(regs: &[u8], offset: u64, into: &mut [u8])
+    requires { ⌜ size ≤ length (now regs) ⌝ }
+    ensures { λ _. ⌜ now (into .exit) ≡ readOf (now (regs .entry)) offset (length (now (into .entry))) ⌝ }
+{
+    if is_inside(offset, into.len()) {
+        let at = offset as usize;
+        let end = at + into.len();
+        bytes::copy(&regs[at..end], into);
+        return;
+    }
+    read_each(regs, offset, into);
 }
 
 fn is_replaced(a: usize) -> bool

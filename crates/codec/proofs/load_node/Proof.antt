@@ -3,7 +3,7 @@ use Prim.Native.Nat.{ℕ}
 use mathlib.Core.Path.{refl, ap}
 use mathlib.Core.List.{List}
 use borrow.Author.Needs.{needs}
-use Rattle.codec.proofs.Copies.{copied-out}
+use Rattle.word.proofs.Copies.{copied-out}
 use Rattle.codec.proofs.load_node.Statement.{statement}
 use Rattle.codec.proofs.load_node.Tie as tie
 

@@ -1,7 +1,7 @@
 -- `store_node` puts the record: a copy of all its bytes over as many at the place.
 use native.Mathlib.Omega.{arith}
 use borrow.Author.Needs.{needs}
-use Rattle.codec.proofs.Copies.{copied-in}
+use Rattle.word.proofs.Copies.{copied-in}
 use Rattle.codec.proofs.store_node.Statement.{statement}
 use Rattle.codec.proofs.store_node.Tie as tie
 
