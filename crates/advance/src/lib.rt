@@ -48,7 +48,7 @@ fn is_still(device: &[u8]) -> bool
     requires { ⌜ length (now device) ≡ deviceSize ⌝ }
     ensures { λ r. ⌜ r ≡ stillOf (deviceAt (now (device .entry))) ⌝ }
 {
-    let running = device[262 + registers::GCTL] & 1 != 0;
+    let running = device[record::REGISTERS + registers::GCTL] & 1 != 0;
     (device[5] == 1) | !running
 }
 
@@ -61,7 +61,11 @@ fn tick(device: &mut [u8], nanos: u64)
     let next = c.advance(nanos);
     record::replace_clock(device, next);
     let shown = next.shown();
-    word::put32(&mut device[262..518], registers::WALCLK, shown);
+    word::put32(
+        &mut device[record::REGISTERS..record::CODEC],
+        registers::WALCLK,
+        shown,
+    );
 }
 
 // Every stream's turn, where DMA may run.
@@ -77,7 +81,10 @@ fn turns(
     ensures { λ r. ⌜ turnsAnswer r (now (device .exit)) (now (lists .exit)) (now (queues .exit)) (now (memory .exit)) ≡ turnsWhere nanos (machine (deviceAt (now (device .entry))) host (now (lists .entry)) (now (queues .entry)) (now (memory .entry))) ⌝ }
     ensures { λ _. ⌜ isDevice (now (device .exit)) ≡ true ⌝ }
 {
-    if !registers::dma_enabled_in(&device[6..262], &device[262..518]) {
+    if !registers::dma_enabled_in(
+        &device[record::CONFIG..record::REGISTERS],
+        &device[record::REGISTERS..record::CODEC],
+    ) {
         return Served {
             refused: false,
             host: host,

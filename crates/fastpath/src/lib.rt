@@ -114,7 +114,7 @@ pub fn write(
     if !bus::is_plain_write(offset, bytes.len()) {
         return left_alone();
     }
-    let old = record::load_block(device, 262);
+    let old = record::load_block(device, record::REGISTERS);
     let mut regs = old;
     written(&mut regs, offset, bytes);
     if !is_quiet(&old, &regs) {
@@ -148,6 +148,10 @@ pub fn config_write(
     if offset > 0xffff_ffff_ffff_ffff - 4 * register {
         return left_alone();
     }
-    configuration::write_in(&mut device[6..262], 4 * register + offset, bytes);
+    configuration::write_in(
+        &mut device[record::CONFIG..record::REGISTERS],
+        4 * register + offset,
+        bytes,
+    );
     conclude(device, memory)
 }

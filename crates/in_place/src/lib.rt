@@ -22,12 +22,19 @@ pub fn commands(device: &mut [u8], memory: &mut [u8])
     ensures { λ _. ⌜ commanded (deviceAt (now (device .exit))) (now (memory .exit)) ≡ commandedOf (deviceAt (now (device .entry))) (now (memory .entry)) ⌝ }
     ensures { λ _. ⌜ isDevice (now (device .exit)) ≡ true ⌝ }
 {
-    let dma = registers::dma_enabled_in(&device[6..262], &device[262..518]);
-    let responses = word::get16(device, 678);
-    if rings::rests(dma, &device[262..518], responses as u32) {
+    let dma = registers::dma_enabled_in(
+        &device[record::CONFIG..record::REGISTERS],
+        &device[record::REGISTERS..record::CODEC],
+    );
+    let responses = word::get16(device, record::RESPONSES);
+    if rings::rests(
+        dma,
+        &device[record::REGISTERS..record::CODEC],
+        responses as u32,
+    ) {
         return;
     }
-    let mut regs = record::load_block(device, 262);
+    let mut regs = record::load_block(device, record::REGISTERS);
     let next = rings::commands(dma, &mut regs, record::load_link(device), memory);
     record::replace_link(device, next);
     record::replace_registers(device, &regs);
@@ -40,9 +47,17 @@ pub fn finish(device: &mut [u8]) -> Ended
     ensures { λ _. ⌜ isDevice (now (device .exit)) ≡ true ⌝ }
 {
     let asserted = record::is_asserted(device);
-    let now = pci::interrupt_of(&device[6..262], &device[262..518], asserted);
-    pci::show(&mut device[6..262], now.shown);
-    word::put32(&mut device[262..518], registers::INTSTS, now.status);
+    let now = pci::interrupt_of(
+        &device[record::CONFIG..record::REGISTERS],
+        &device[record::REGISTERS..record::CODEC],
+        asserted,
+    );
+    pci::show(&mut device[record::CONFIG..record::REGISTERS], now.shown);
+    word::put32(
+        &mut device[record::REGISTERS..record::CODEC],
+        registers::INTSTS,
+        now.status,
+    );
     record::replace_latch(device, now.asserted);
     let msi = now.msi;
     Ended {

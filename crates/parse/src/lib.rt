@@ -130,7 +130,7 @@ fn format_number(state: &[u8], index: usize) -> u32
     requires { ⌜ (index < streams) × (680 ≤ length (now state)) ⌝ }
     ensures { λ r. ⌜ r ≡ formatNumber (now (state .entry)) index ⌝ }
 {
-    let base = 262 + registers::STREAM_BASE + registers::STREAM_SIZE * index;
+    let base = record::REGISTERS + registers::STREAM_BASE + registers::STREAM_SIZE * index;
     let raw = word::get16(state, base + registers::FMT);
     let idle = (raw == 0) & (state[base] & 2 == 0);
     if idle {
@@ -219,9 +219,9 @@ fn last_number(state: &[u8], config: &Config, end: usize) -> u32
 {
     let whole = end == state.len();
     let paused = state[5] <= 1;
-    let time = word::get64(state, 670) < 1_000_000_000;
-    let responses = word::get16(state, 678) <= 255;
-    let identity = word::get32(state, 6) == word::get32(config, 0);
+    let time = word::get64(state, record::FRACTION) < 1_000_000_000;
+    let responses = word::get16(state, record::RESPONSES) <= 255;
+    let identity = word::get32(state, record::CONFIG) == word::get32(config, 0);
     let valid = whole & (paused & (time & (responses & identity)));
     if valid { 0 } else { 9 }
 }

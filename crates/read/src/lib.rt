@@ -51,13 +51,13 @@ fn valid(device: &[u8], lists: &[u8]) -> bool
     requires { ⌜ (length (now device) ≡ deviceSize) × (listSize * streams ≤ length (now lists)) ⌝ }
     ensures { λ r. ⌜ r ≡ validOf (deviceAt (now (device .entry))) (now (lists .entry)) ⌝ }
 {
-    if word::get64(device, 670) >= 1_000_000_000 {
+    if word::get64(device, record::FRACTION) >= 1_000_000_000 {
         return false;
     }
-    if word::get16(device, 678) > 255 {
+    if word::get16(device, record::RESPONSES) > 255 {
         return false;
     }
-    if word::get32(device, 6) != 0x293e_8086 {
+    if word::get32(device, record::CONFIG) != 0x293e_8086 {
         return false;
     }
     streams_valid(device, lists)
@@ -84,7 +84,10 @@ pub fn status_of(device: &[u8], number: u32) -> Status
 {
     Status {
         number,
-        level: pci::level_in(&device[6..262], &device[262..518]),
+        level: pci::level_in(
+            &device[record::CONFIG..record::REGISTERS],
+            &device[record::REGISTERS..record::CODEC],
+        ),
     }
 }
 
@@ -104,7 +107,7 @@ pub fn read(
     if number != 0 {
         return status_of(device, number);
     }
-    registers::read_in(&device[262..518], offset, into);
+    registers::read_in(&device[record::REGISTERS..record::CODEC], offset, into);
     status_of(device, number)
 }
 
@@ -157,7 +160,7 @@ pub fn config_read(device: &[u8], host: Host, lists: &[u8], queues: &[u8], regis
             value: 0,
         };
     }
-    let value = configuration::read_in(&device[6..262], register);
+    let value = configuration::read_in(&device[record::CONFIG..record::REGISTERS], register);
     Value {
         number: s.number,
         level: s.level,

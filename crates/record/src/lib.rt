@@ -17,6 +17,19 @@ ghost use Rattle.record.specs.Layout.{latchPlace, deviceSize};
 ghost use Rattle.record.specs.Devices.{flag, linkBytes, headOf, countsOf, numbersOf, streamsBytes, deviceBytes};
 ghost use Rattle.record.specs.Loads.{flagAt, markedOf, blockAt, linkAt, clockAt, streamAt, streamsAt, deviceAt, isDevice, Holds};
 
+// Where the parts of a head stand: configuration, registers, codec, the clock's two numbers, responses.
+pub const CONFIG: usize = 6;
+
+pub const REGISTERS: usize = 262;
+
+pub const CODEC: usize = 518;
+
+const TICKS: usize = 662;
+
+pub const FRACTION: usize = 670;
+
+pub const RESPONSES: usize = 678;
+
 // Bytes of a state or a device record before its streams, and of a stream's numbers in it.
 pub const HEAD: usize = 680;
 
@@ -56,10 +69,10 @@ fn put_link(hda: Hda, into: &mut [u8])
     ensures { λ _. ⌜ now (into .exit) ≡ putAt 518 (linkBytes hda) (now (into .entry)) ⌝ }
 {
     let codec = hda.link.codec;
-    codec.store(into, 518);
-    word::put64(into, 662, hda.clock.ticks);
-    word::put64(into, 670, hda.clock.fraction);
-    put_low(into, 678, hda.link.responses);
+    codec.store(into, CODEC);
+    word::put64(into, TICKS, hda.clock.ticks);
+    word::put64(into, FRACTION, hda.clock.fraction);
+    put_low(into, RESPONSES, hda.link.responses);
 }
 
 // The head of a device's record or saved state.
@@ -70,8 +83,8 @@ pub fn put_head(hda: Hda, into: &mut [u8])
     let flags = [flag_byte(hda.microphone), flag_byte(hda.paused)];
     put(into, 0, b"HDA1");
     put(into, 4, &flags);
-    put(into, 6, &hda.config);
-    put(into, 262, &hda.regs);
+    put(into, CONFIG, &hda.config);
+    put(into, REGISTERS, &hda.regs);
     put_link(hda, into);
 }
 
@@ -128,7 +141,7 @@ pub fn replace_registers(into: &mut [u8], regs: &Registers)
     requires { ⌜ (length (now into) ≡ deviceSize) × (isDevice (now into) ≡ true) ⌝ }
     ensures { λ _. ⌜ Holds (now (into .exit)) (withRegs (deviceAt (now (into .entry))) (now (regs .entry))) ⌝ }
 {
-    put(into, 262, regs);
+    put(into, REGISTERS, regs);
 }
 
 // Its codec and responses.
@@ -137,8 +150,8 @@ pub fn replace_link(into: &mut [u8], link: Link)
     ensures { λ _. ⌜ Holds (now (into .exit)) (withLink (deviceAt (now (into .entry))) link) ⌝ }
 {
     let codec = link.codec;
-    codec.store(into, 518);
-    put_low(into, 678, link.responses);
+    codec.store(into, CODEC);
+    put_low(into, RESPONSES, link.responses);
 }
 
 // Its clock.
@@ -146,8 +159,8 @@ pub fn replace_clock(into: &mut [u8], c: Clock)
     requires { ⌜ (length (now into) ≡ deviceSize) × (isDevice (now into) ≡ true) ⌝ }
     ensures { λ _. ⌜ Holds (now (into .exit)) (withClock (deviceAt (now (into .entry))) c) ⌝ }
 {
-    word::put64(into, 662, c.ticks);
-    word::put64(into, 670, c.fraction);
+    word::put64(into, TICKS, c.ticks);
+    word::put64(into, FRACTION, c.fraction);
 }
 
 // Its stream `index`.
@@ -200,9 +213,9 @@ pub fn load_link(from: &[u8]) -> Link
     requires { ⌜ 680 ≤ length (now from) ⌝ }
     ensures { λ r. ⌜ r ≡ linkAt (now (from .entry)) ⌝ }
 {
-    let responses = word::get16(from, 678);
+    let responses = word::get16(from, RESPONSES);
     Link {
-        codec: Codec::load(from, 518),
+        codec: Codec::load(from, CODEC),
         responses: responses as u32,
     }
 }
@@ -213,8 +226,8 @@ pub fn load_clock(from: &[u8]) -> Clock
     ensures { λ r. ⌜ r ≡ clockAt (now (from .entry)) ⌝ }
 {
     Clock {
-        ticks: word::get64(from, 662),
-        fraction: word::get64(from, 670),
+        ticks: word::get64(from, TICKS),
+        fraction: word::get64(from, FRACTION),
     }
 }
 
@@ -257,8 +270,8 @@ pub fn load_device(from: &[u8]) -> Hda
     ensures { λ r. ⌜ r ≡ deviceAt (now (from .entry)) ⌝ }
 {
     Hda {
-        config: load_block(from, 6),
-        regs: load_block(from, 262),
+        config: load_block(from, CONFIG),
+        regs: load_block(from, REGISTERS),
         link: load_link(from),
         streams: load_streams(from),
         clock: load_clock(from),

@@ -20,7 +20,9 @@ fn opens(state: &[u8], microphone: bool, index: usize) -> bool
     requires { ⌜ (index < streams) × (680 ≤ length (now state)) ⌝ }
     ensures { λ r. ⌜ r ≡ opensOf (now (state .entry)) microphone index ⌝ }
 {
-    let control = state[262 + registers::STREAM_BASE + registers::STREAM_SIZE * index];
+    let control = state[record::REGISTERS
+        + registers::STREAM_BASE
+        + registers::STREAM_SIZE * index];
     (control & 2 != 0) & (!stream::is_capture(index) | microphone)
 }
 
@@ -145,10 +147,10 @@ fn restored_device(state: &[u8], hda: Hda) -> Hda
     ensures { λ r. ⌜ r ≡ restoredDevice (now (state .entry)) hda ⌝ }
 {
     let clock = later(hda.clock, record::load_clock(state));
-    let mut regs = record::load_block(state, 262);
+    let mut regs = record::load_block(state, record::REGISTERS);
     word::put32_in(&mut regs, registers::WALCLK, clock.shown());
     Hda {
-        config: record::load_block(state, 6),
+        config: record::load_block(state, record::CONFIG),
         regs: regs,
         link: record::load_link(state),
         streams: restored_streams(state),
