@@ -1,4 +1,4 @@
-/* Calls every function of include/hda.h from C and checks a few answers: frames played and captured, a message sent, an opening refused, a state saved and restored, slices
+/* Calls every function of include/hda.h from C and checks a few answers: frames played and captured, a message sent, openings refused by a write and by time, a state saved and restored, slices
  * of length 0 at NULL. */
 #include "hda.h"
 #include <stdio.h>
@@ -36,14 +36,20 @@ static uint64_t write_register(uint64_t offset, uint64_t value, size_t width)
     return hda_write(RECORDS, memory, sizeof memory, offset, bytes, width);
 }
 
+/* What stands in bytes: `width` of them from `place` on, lowest first. */
+static uint64_t stands(const uint8_t *bytes, size_t place, size_t width)
+{
+    uint64_t value = 0;
+    for (size_t i = width; i > 0; i--)
+        value = value << 8 | bytes[place + i - 1];
+    return value;
+}
+
 static uint64_t read_register(uint64_t offset, size_t width)
 {
     uint8_t bytes[8] = {0};
     CHECK(hda_number(hda_read(RECORDS, offset, bytes, width)), HDA_DONE);
-    uint64_t value = 0;
-    for (size_t i = width; i > 0; i--)
-        value = value << 8 | bytes[i - 1];
-    return value;
+    return stands(bytes, 0, width);
 }
 
 /* A stream's descriptor list at `list`: one flagged buffer of 1,024 bytes at `buffer`. Then its registers, and RUN with interrupts on completion. */
@@ -219,6 +225,27 @@ static void empty(void)
     CHECK(read_register(0xa3, 1) & 0x10, 0x10);
 }
 
+/* The host's side is made anew while the capture runs, and refuses to open it: so an opening is refused in hda_advance. What the stream had moved before stands. */
+static void exchanged(void)
+{
+    uint8_t on[1] = {6};
+    CHECK(hda_new(device, sizeof device, lists, sizeof lists, queues, sizeof queues, 1), HDA_DONE);
+    CHECK(hda_host_new(HOST), HDA_DONE);
+    CHECK(hda_number(hda_config_write(RECORDS, MEMORY, 1, 0, on, 1)), HDA_DONE);
+    write_register(0x08, 1, 1);
+    start(0, 0x400, 0x2000);
+    CHECK(hda_number(hda_advance(RECORDS, MEMORY, 1000000)), HDA_DONE);
+    CHECK(stands(device, 680 + 6, 8), 192);
+    CHECK(stands(device, 680 + 14, 8), 192);
+    CHECK(hda_host_new(HOST), HDA_DONE);
+    CHECK(hda_number(hda_set_capture_fails(HOST, 1)), HDA_DONE);
+    CHECK(hda_number(hda_advance(RECORDS, MEMORY, 1000000)), HDA_HOST_CLOSED);
+    CHECK(stands(device, 680 + 6, 8), 192);
+    CHECK(stands(device, 680 + 14, 8), 192);
+    CHECK(read_register(0x80, 1) & 2, 0);
+    CHECK(read_register(0x83, 1) & 0x10, 0x10);
+}
+
 /* Every call without spaces, then every call without records. */
 static void nothing(void)
 {
@@ -276,6 +303,7 @@ int main(void)
     saved();
     restored();
     empty();
+    exchanged();
     nothing();
     printf("%d checks, %d failed\n", checks, failures);
     return failures != 0;

@@ -68,9 +68,9 @@ module _ (F : Type 0) (i : ℕ) (own : i < streams) where
   tailed-leaves x a p h = finished-leaves (withCommanded x (p .host) (commandedOf (p .hda) (x .memory))) a 0 h
 
   -- ---- advance
-  clocked-fine : (nanos : ℕ) (x : Machine) → checkMachine x ≡ 0 → Fine (withCommanded x (x .host) (commandedOf (tickedOf nanos (x .hda)) (x .memory)))
+  clocked-fine : (nanos : ℕ) (x : Machine) → length (x .host .queues) ≡ streams → checkMachine x ≡ 0 → Fine (x .host .downstream) (withCommanded x (x .host) (commandedOf (tickedOf nanos (x .hda)) (x .memory)))
   unfolding commandedOf tickedOf
-  clocked-fine nanos x e =
+  clocked-fine nanos x sized e =
       let d = x .hda in
       let t = tickedOf nanos d in
       let p = passed d (x .host) (x .lists) (length (x .queues)) e in
@@ -80,30 +80,32 @@ module _ (F : Type 0) (i : ℕ) (own : i < streams) where
         device = device-changed d (commandedOf t (x .memory) .hda) (x .lists) (advance-fraction (d .clock) nanos)
             (commands-few (ringsOf (t .regs) (t .link) (x .memory)) (v .responses) (dmaOf (t .config) (t .regs))) refl refl (p .device);
         host = p .host;
+        count = sized;
+        down = refl;
       }
 
-  commands-leaves : (nanos : ℕ) (x : Machine) (a : Ghost) → Fine x → HeldBy a x
-      → Leaves (sees (onlyIf (dmaOf (x .hda .config) (x .hda .regs)) (serveEvents nanos i x)) a) (afterCommands nanos x)
+  commands-leaves : (downstream nanos : ℕ) (x : Machine) (a : Ghost) → Fine downstream x → HeldBy a x
+      → Leaves (sees (onlyIf (dmaOf (x .hda .config) (x .hda .regs)) (serveEvents downstream nanos i x)) a) (afterCommands nanos x)
   unfolding afterCommands
-  commands-leaves nanos x a f h =
+  commands-leaves downstream nanos x a f h =
       let w = serveOf nanos x in
-      by-both (λ (r : Done) (es : List Event). Leaves (sees es a) r) (dmaOf (x .hda .config) (x .hda .regs)) (finished (numberOf (w .refused)) (w .machine)) (finished 0 x) (serveEvents nanos i x) []
-      (λ _. finished-leaves (w .machine) (sees (serveEvents nanos i x) a) (numberOf (w .refused)) (serve-held nanos F i own x a f h))
+      by-both (λ (r : Done) (es : List Event). Leaves (sees es a) r) (dmaOf (x .hda .config) (x .hda .regs)) (finished (numberOf (w .refused)) (w .machine)) (finished 0 x) (serveEvents downstream nanos i x) []
+      (λ _. finished-leaves (w .machine) (sees (serveEvents downstream nanos i x) a) (numberOf (w .refused)) (serve-held downstream nanos F i own x a f h))
       (λ _. finished-leaves x a 0 h)
 
   clocked-held : (nanos : ℕ) (x : Machine) (a : Ghost) → HeldBy a x → HeldBy a (withCommanded x (x .host) (commandedOf (tickedOf nanos (x .hda)) (x .memory)))
   unfolding commandedOf tickedOf
   clocked-held nanos x a h = h
 
-  advance-leaves : (nanos : ℕ) (x : Machine) (a : Ghost) → HeldBy a x → Leaves (sees (onlyIf (eqb (checkMachine x) 0) (advanceEvents nanos i x)) a) (advanceOf nanos x)
+  advance-leaves : (nanos : ℕ) (x : Machine) (a : Ghost) → length (x .host .queues) ≡ streams → HeldBy a x → Leaves (sees (onlyIf (eqb (checkMachine x) 0) (advanceEvents nanos i x)) a) (advanceOf nanos x)
   unfolding advanceOf advanceStep advanceEvents
-  advance-leaves nanos x a h =
+  advance-leaves nanos x a sized h =
       let y = withCommanded x (x .host) (commandedOf (tickedOf nanos (x .hda)) (x .memory)) in
-      let es = onlyIf (dmaOf (y .hda .config) (y .hda .regs)) (serveEvents nanos i y) in
+      let es = onlyIf (dmaOf (y .hda .config) (y .hda .regs)) (serveEvents (x .host .downstream) nanos i y) in
       checked-leaves x a (advanceStep nanos) (advanceEvents nanos i x) h
       (λ e. by-not (λ (r : Done) (fs : List Event). Leaves (sees fs a) r) (x .hda .paused || not (has 1 (byteAt (x .hda .regs) gctl))) (unchanged 0 x) (afterCommands nanos y) es []
       (λ _. unchanged-leaves x a 0 h)
-      (λ _. commands-leaves nanos y a (clocked-fine nanos x e) (clocked-held nanos x a h)))
+      (λ _. commands-leaves (x .host .downstream) nanos y a (clocked-fine nanos x sized e) (clocked-held nanos x a h)))
 
   -- ---- writes
   module _ (offset : ℕ) (bytes : List ℕ) (x : Machine) (a : Ghost) (h : HeldBy a x) where
@@ -152,24 +154,24 @@ module _ (F : Type 0) (i : ℕ) (own : i < streams) where
     pause-held paused = by-cond (λ (d : Hda). Held F i (d .streams) (x .lists) a) (eqb (checkMachine x) 0) _ (x .hda) (λ _. h) (λ _. h)
 
   -- ---- every call, and any list
-  pub after-held : (c : Call) (x : Machine) (a : Ghost) → (F → NotRestored c x) → HeldBy a x → HeldBy (sees (eventsOf i c x) a) (after c x)
+  pub after-held : (c : Call) (x : Machine) (a : Ghost) → (F → NotRestored c x) → length (x .host .queues) ≡ streams → HeldBy a x → HeldBy (sees (eventsOf i c x) a) (after c x)
   unfolding after eventsOf restoreEvents
-  after-held (calls.advance nanos) x a none h = advance-leaves nanos x a h
-  after-held (calls.read offset into) x a none h = h
-  after-held (calls.write offset bytes) x a none h = write-leaves offset bytes x a h
-  after-held (calls.barRead bar offset into) x a none h = h
-  after-held (calls.barWrite bar offset bytes) x a none h = bar-write-leaves offset bytes x a h bar
-  after-held (calls.configRead register) x a none h = h
-  after-held (calls.configWrite register offset bytes) x a none h = config-leaves x a h register offset bytes
-  after-held (calls.pinChange node) x a none h = pin-leaves x a h node
-  after-held (calls.pause paused) x a none h = pause-held x a h paused
-  after-held (calls.feed frames) x a none h = h
-  after-held (calls.pull into) x a none h = h
-  after-held (calls.playbackFails fails) x a none h = h
-  after-held (calls.captureFails fails) x a none h = h
-  after-held (calls.downstream n) x a none h = h
-  after-held (calls.save into) x a none h = h
-  after-held (calls.restore state) x a none h =
+  after-held (calls.advance nanos) x a none sized h = advance-leaves nanos x a sized h
+  after-held (calls.read offset into) x a none sized h = h
+  after-held (calls.write offset bytes) x a none sized h = write-leaves offset bytes x a h
+  after-held (calls.barRead bar offset into) x a none sized h = h
+  after-held (calls.barWrite bar offset bytes) x a none sized h = bar-write-leaves offset bytes x a h bar
+  after-held (calls.configRead register) x a none sized h = h
+  after-held (calls.configWrite register offset bytes) x a none sized h = config-leaves x a h register offset bytes
+  after-held (calls.pinChange node) x a none sized h = pin-leaves x a h node
+  after-held (calls.pause paused) x a none sized h = pause-held x a h paused
+  after-held (calls.feed frames) x a none sized h = h
+  after-held (calls.pull into) x a none sized h = h
+  after-held (calls.playbackFails fails) x a none sized h = h
+  after-held (calls.captureFails fails) x a none sized h = h
+  after-held (calls.downstream n) x a none sized h = h
+  after-held (calls.save into) x a none sized h = h
+  after-held (calls.restore state) x a none sized h =
       restore-held state (x .hda) (x .host) (x .lists) F i own a h (length (x .queues)) (λ f check number. none f state refl (check, number))
 
   pub run-held : (cs : List Step) (x : Machine) (a : Ghost) → (F → NoRestore cs x) → HeldBy a x → HeldBy (sees (allEvents i cs x) a) (run cs x)
@@ -179,4 +181,4 @@ module _ (F : Type 0) (i : ℕ) (own : i < streams) where
       let y = handed c x in
       let es = eventsOf i (c .call) y in
       rw (sees-append es (allEvents i cs (after (c .call) y)) a)
-      (run-held cs (after (c .call) y) (sees es a) (λ f. none f .1) (after-held (c .call) y a (λ f. none f .0) h))
+      (run-held cs (after (c .call) y) (sees es a) (λ f. none f .1) (after-held (c .call) y a (λ f. none f .0) (c .sized) h))

@@ -18,6 +18,7 @@ use Rattle.turn.specs.declared.Engine.{Engine}
 use Rattle.turn.specs.Engines.{Work, workOf, stoppedOf, positionOf, movedOn, Updated, updatedOf, withUpdated, framesOf, transferredOf, transferAt, settledOf, roundOf, again, roundsOf, accruedOf, dueOf, timedOf, servedOf}
 use Rattle.turn.proofs.Facts.{publish-by, transfer-stream}
 use Rattle.device.specs.Machines.{Machine}
+use Rattle.book.specs.Book.{Book}
 use Rattle.book.specs.Lists.{Step, bookOf}
 use Rattle.book.specs.Claim.{Rises, Starts}
 use Rattle.book.specs.Corollaries.{times, Once, Told}
@@ -47,18 +48,20 @@ at-most-once p lo [] hi r = omega arith
 at-most-once p lo (q ∷ ps) hi r =
     once-step (eqb p q) (times p ps) (λ e. none-below p q ps hi (omega (arith, eqb-true p q e)) (r .1)) (at-most-once p q ps hi (r .1))
 
-pub once : (i : ℕ) → i < streams → (cs : List Step) (x : Machine) → Starts x → Once i cs x
-once i few cs x start =
-    let b = bookOf i cs x in
-    let a = agrees i few cs x start in
-    let gone : Rises 0 (b .retired) (b .consumed) = past i few cs x start in
-    let left : Rises (b .consumed) (b .pending) (b .submitted) = rises-same (a .consumed) (a .pending) (a .submitted) (a .rises) in
+-- retired positions up to consumed, and pending ones from there on, are the ends
+pub once-each : (b : Book) → Rises 0 (b .retired) (b .consumed) → Rises (b .consumed) (b .pending) (b .submitted) → b .ends ≡ b .retired ++ b .pending → Once b
+once-each b gone left exact =
     record {
-      once = λ p. rw (a .exact) (at-most-once p 0 (b .retired ++ b .pending) (b .submitted) (rises-append 0 (b .retired) (b .consumed) (b .pending) (b .submitted) gone left));
-      parted = λ p. ap (times p) (a .exact) ∙ times-append p (b .retired) (b .pending);
+      once = λ p. rw exact (at-most-once p 0 (b .retired ++ b .pending) (b .submitted) (rises-append 0 (b .retired) (b .consumed) (b .pending) (b .submitted) gone left));
+      parted = λ p. ap (times p) exact ∙ times-append p (b .retired) (b .pending);
       early = λ p h. none-above p 0 (b .retired) (b .consumed) h gone;
       late = λ p h. none-below p (b .consumed) (b .pending) (b .submitted) h left;
     }
+
+pub once : (i : ℕ) → i < streams → (cs : List Step) (x : Machine) → Starts x → Once (bookOf i cs x)
+once i few cs x start =
+    let a = agrees i few cs x start in
+    once-each (bookOf i cs x) (past i few cs x start) (rises-same (a .consumed) (a .pending) (a .submitted) (a .rises)) (a .exact)
 
 -- ---- a turn: each position update tells position and count, and a transfer that fails moves neither
 stopped-told : (g : Setup) (e : Engine) → e .position ≡ positionOf (e .stream .consumed) (g .cyclic .cbl) → Told g (stoppedOf e)

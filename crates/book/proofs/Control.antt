@@ -50,7 +50,7 @@ module _ (F : Type 0) (l : List ℕ) (a : Ghost) (i : ℕ) where
 
   held-tied : (x : Channel) → Tied F (x .attached .stream) l a → Tied F (heldOf i x .attached .stream) l (see reset a)
   unfolding resetOf
-  held-tied x t = tied-reset F l a (t .sized) (t .never)
+  held-tied x t = tied-reset F l a (t .sized) (t .never) (t .founded)
 
   settled-tied : (before : ℕ) (microphone : Bool) (x : Channel) → Tied F (x .attached .stream) l a
       → Tied F (settledOf before microphone i x .attached .stream) l (sees (cond (has 1 (byteAt (x .regs) (ctl i))) (reset ∷ []) []) a)
@@ -71,7 +71,7 @@ module _ (F : Type 0) (i : ℕ) (own : i < streams) (lists : List ℕ) where
 
   reset-own : (a : Ghost) (x : Ports) → Kept a x → Kept (see reset a) (resetAt i x)
   unfolding resetOf
-  reset-own a x h = held-own F i own (x .hda .streams) lists a h _ (see reset a) (tied-reset F (partOf listSize i lists) a (h .own .sized) (h .own .never))
+  reset-own a x h = held-own F i own (x .hda .streams) lists a h _ (see reset a) (tied-reset F (partOf listSize i lists) a (h .own .sized) (h .own .never) (h .own .founded))
 
   controller-reset : (a : Ghost) (x : Ports) → Kept a x → Kept (see reset a) (resetControllerOf x)
   unfolding resetControllerOf

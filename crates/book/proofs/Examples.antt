@@ -2,10 +2,10 @@
 use mathlib.Core.Path.{_≡_, refl}
 use mathlib.Core.Bool.{true, false}
 use mathlib.Core.List.{[], _∷_}
-use Rattle.book.specs.Book.{book, reset, restored, moved, updated, failed, made, note, notes}
+use Rattle.book.specs.Book.{book, reset, restored, moved, updated, refused, made, note, notes}
 
--- two flagged ends, of which the latency leaves one pending; a transfer that fails adds nothing
-played : notes (moved 8 true ∷ moved 4 false ∷ updated 12 ∷ moved 4 true ∷ updated 6 ∷ failed false ∷ []) made ≡ book 16 10 (8 ∷ 16 ∷ []) (8 ∷ []) (16 ∷ [])
+-- two flagged ends, of which the latency leaves one pending; an opening that is refused adds nothing
+played : notes (moved 8 true ∷ moved 4 false ∷ updated 12 ∷ moved 4 true ∷ updated 6 ∷ refused ∷ []) made ≡ book 16 10 (8 ∷ 16 ∷ []) (8 ∷ []) (16 ∷ [])
 unfolding note notes
 played = refl
 

@@ -1,6 +1,7 @@
 -- The book beside the limit; rising lists; loops. Then what ties a stream to the book: through the pieces of a transfer, a turn, the streams' turns, a write, a restore,
 -- every call and any list; the theorem and its corollaries, the position register among them; and examples of the book.
 pub mod Ghosts
+pub mod Reasons
 pub mod Orders
 pub mod Loops
 pub mod Tied

@@ -1,5 +1,5 @@
 -- Rising lists: what the book retires by a test of each position is what the device retires from the front. Assumes nothing.
-use Prim.Native.Nat.{ℕ, _+_, _≤_, _<_}
+use Prim.Native.Nat.{ℕ, _+_, _*_, _≤_, _<_}
 use mathlib.Core.Path.{_≡_, refl, sym, ap}
 use mathlib.Core.Bool.{Bool, true, false, cond, _&&_, and-eq-true-iff}
 use mathlib.Core.List.{List, [], _∷_, _++_}
@@ -7,10 +7,10 @@ use native.Mathlib.Omega.{arith}
 use native.Mathlib.Numerals.{one-add}
 use borrow.Author.Tests.{ltb-true, leb-true, leb-false, lt-leb}
 use lib.Dec.{ltb, leb}
-use lib.ListN.{drop}
+use lib.ListN.{length, drop}
 use Rattle.positions.specs.Positions.{risesOf, upToOf}
 use Rattle.pieces.proofs.Spacing.{SpacedFrom, Spaced}
-use Rattle.book.specs.Book.{upTo, above}
+use Rattle.book.specs.Book.{limit, upTo, above}
 use Rattle.book.specs.Claim.{Rises, FourFrom, FourApart}
 
 pub rises-all : (lo : ℕ) (ps : List ℕ) (hi : ℕ) → lo ≤ hi → risesOf lo ps hi ≡ true → Rises lo ps hi
@@ -79,6 +79,15 @@ halves c lo [] hi r = refl
 halves c lo (p ∷ ps) hi r =
     halves-step (leb p c) c p ps (λ _. halves c p ps hi (r .1))
     (λ e. (none-up c p ps hi (omega (arith, leb-false p c e)) (r .1), all-above c p ps hi (omega (arith, leb-false p c e)) (r .1)))
+
+-- few positions 4 apart fit between two counts that are at most 16,384 bytes apart
+spaced-room : (p offset hi : ℕ) (ps : List ℕ) → SpacedFrom p offset hi ps → p + 4 * length ps ≤ hi
+spaced-room p offset hi [] f = omega arith
+spaced-room p offset hi (q ∷ ps) f = omega (arith, f .0, spaced-room q offset hi ps (f .1))
+
+pub few-pending : (lo offset hi : ℕ) (ps : List ℕ) → Spaced offset hi ps → Rises lo ps hi → hi ≤ lo + 16384 → length ps < limit
+few-pending lo offset hi [] f r near = omega arith
+few-pending lo offset hi (p ∷ ps) f r near = omega (arith, r .0, spaced-room p offset hi ps f)
 
 -- positions 4 apart
 four-from : (p offset hi : ℕ) (ps : List ℕ) → SpacedFrom p offset hi ps → FourFrom p ps

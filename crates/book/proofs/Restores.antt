@@ -28,7 +28,7 @@ use Rattle.restore.proofs.Lists.{length-restored, restored-positions, restored-
 use Rattle.restore.proofs.Theorems.{number-taken}
 use Rattle.book.specs.Book.{Book, Event, restoredWith, note}
 use Rattle.book.specs.Events.{onlyIf, restoredEvent}
-use Rattle.book.proofs.Ghosts.{Ghost, sees}
+use Rattle.book.proofs.Ghosts.{Ghost, isFull, sees}
 use Rattle.book.proofs.Tied.{tied-opening}
 use Rattle.book.proofs.Machines.{Held, part-size}
 
@@ -96,8 +96,8 @@ module _ (s : List ℕ) (d : Hda) (h : Host) (l : List ℕ) where
           count = length-row (streamOf s) streams 0;
           space = space;
           own = rw (accepted-stream i few (held .space))
-              (tied-opening F t part (positionsOf (t .pending) (drop (placeOf s i + 34) s)) (a .full) (part-size i (restoredLists s l) few space)
-              (restored-stream s fits l (held .space) i few valid) (accepted-positions i few (held .space) number) (λ f. absurd (none f)) (λ f. absurd (none f)) (held .own .never));
+              (tied-opening F t part (positionsOf (t .pending) (drop (placeOf s i + 34) s)) (isFull (positionsOf (t .pending) (drop (placeOf s i + 34) s)) (a .full)) (part-size i (restoredLists s l) few space)
+              (restored-stream s fits l (held .space) i few valid) (accepted-positions i few (held .space) number) (λ f. absurd (none f)) (λ f. absurd (none f)) (λ f. absurd (none f)) (a .groundless) (held .own .founded));
         }
 
     pub restore-held : (q : ℕ) → (F → checkOf d h l q ≡ 0 → numberOf s d h ≡ 0 → ⊥)

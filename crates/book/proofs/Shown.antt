@@ -2,7 +2,7 @@
 use Prim.Native.Nat.{ℕ, suc, _+_, _-_, _%_, _^_, _≤_, _<_}
 use mathlib.Core.Path.{_≡_, refl, sym, ap, _∙_}
 use mathlib.Core.Bool.{Bool, true, false, cond, not, _||_}
-use mathlib.Core.List.{List, []}
+use mathlib.Core.List.{List, [], _∷_}
 use mathlib.Core.Logic.{_⊎_, inl, inr, ⊎-elim, _≢_}
 use native.Mathlib.Omega.{arith}
 use native.Mathlib.Nat.{mod-lt}
@@ -41,9 +41,9 @@ use Rattle.serve.specs.Serve.{Turns, turnsOf, runs, takenOf, turnAt, goesOn, se
 use Rattle.advance.specs.Advance.{tickedOf, numberOf, afterCommands, advanceStep, advanceOf}
 use Rattle.calls.specs.Calls as calls
 use Rattle.calls.specs.Calls.{after}
-use Rattle.book.specs.Book.{Event}
-use Rattle.book.specs.Events.{onlyIf, formattedEvents, servedEvents, turnEvents, serveEvents, advanceEvents, eventsOf}
-use Rattle.book.specs.Corollaries.{Whole, Shows, Some, Served}
+use Rattle.book.specs.Book.{Event, refused}
+use Rattle.book.specs.Events.{onlyIf, Given, givenOf, formattedEvents, servedEvents, turnEvents, serveEvents, advanceEvents, eventsOf}
+use Rattle.book.specs.Corollaries.{Whole, Shows, Serves, Served}
 use Rattle.book.proofs.Loops.{each-split, each-range, each-turn}
 use Rattle.book.proofs.Consequences.{told}
 
@@ -120,17 +120,17 @@ module _ (regs : List ℕ) (codec : Codec) (h : Host) (microphone : Bool) (i nan
         ∙ place
         ∙ ap (positionOf (x .stream .consumed)) (sym (stored-elsewhere i x regs few sized 4 (cbl i) (inr (omega arith))))
 
-    formatted-shows : (f : Format) → Some (formattedEvents regs codec h microphone i nanos limit s l part m f)
+    formatted-shows : (v : Given) (f : Format) → Serves (formattedEvents v regs codec h microphone i nanos limit s l part m f)
         → let t = formattedOf regs codec h microphone i nanos limit s l part m f in
         wordAt 4 (lpib i) (t .regs) ≡ positionOf (t .turned .stream .consumed) (wordAt 4 (cbl i) (t .regs))
-    formatted-shows Unsupported none = absurd none
-    formatted-shows (Rate rate) some =
+    formatted-shows v Unsupported none = absurd none
+    formatted-shows v (Rate rate) some =
         let o = openStreamOf h microphone i in
-        by-both (λ (t : Turn) (es : List Event). Some es → wordAt 4 (lpib i) (t .regs) ≡ positionOf (t .turned .stream .consumed) (wordAt 4 (cbl i) (t .regs)))
-        (o .ok) _ _ _ [] (λ _ _. served-shows rate (o .host .downstream) (engineOf regs (o .host) i s)) (λ _ none. absurd none) some
+        by-both (λ (t : Turn) (es : List Event). Serves es → wordAt 4 (lpib i) (t .regs) ≡ positionOf (t .turned .stream .consumed) (wordAt 4 (cbl i) (t .regs)))
+        (o .ok) _ _ _ (refused ∷ []) (λ _ _. served-shows rate (o .host .downstream) (engineOf regs (o .host) i s)) (λ _ none. absurd none) some
 
 -- the machine before a stream's turn, and after it
-module _ (nanos i : ℕ) (own : i < streams) where
+module _ (downstream nanos i : ℕ) (own : i < streams) where
   record Waits (d : Hda) : Type 0 where
     sized : length (d .regs) ≡ size
     count : length (d .streams) ≡ streams
@@ -195,7 +195,7 @@ module _ (nanos i : ℕ) (own : i < streams) where
         (λ _. t)
 
   -- its own
-  own-shown : (w : Turns) → Waits (w .machine .hda) → Some (turnEvents nanos i (w .machine)) → Shown (turnAt nanos i w .machine .hda)
+  own-shown : (w : Turns) → Waits (w .machine .hda) → Serves (turnEvents downstream nanos i (w .machine)) → Shown (turnAt nanos i w .machine .hda)
   unfolding turnAt turnEvents turnOf
   own-shown w t some =
       let x = w .machine in
@@ -203,16 +203,16 @@ module _ (nanos i : ℕ) (own : i < streams) where
       let l = partOf listSize i (x .lists) in
       let q = partOf capacity i (x .queues) in
       let f = formatOf (wordAt 2 (fmt i) (d .regs)) in
-      by-both (λ (v : Turns) (es : List Event). Some es → Shown (v .machine .hda)) (runs (d .regs) i) (takenOf i x (turnFor i x)) w
-      (formattedEvents (d .regs) (d .link .codec) (x .host) (d .microphone) i nanos capacity (streamAt d i) l q (x .memory) f) []
+      by-both (λ (v : Turns) (es : List Event). Serves es → Shown (v .machine .hda)) (runs (d .regs) i) (takenOf i x (turnFor i x)) w
+      (formattedEvents (givenOf i downstream (d .regs)) (d .regs) (d .link .codec) (x .host) (d .microphone) i nanos capacity (streamAt d i) l q (x .memory) f) []
       (λ _ some. record {
         sized = after-turn i x (λ l. length l ≡ size) (λ e. stored-size i e (d .regs) own (t .sized));
         shows = rw (getD-set-same (d .streams) i (turnFor i x .turned .stream) freshOf (omega (arith, t .count)))
-            (formatted-shows (d .regs) (d .link .codec) (x .host) (d .microphone) i nanos capacity (streamAt d i) l q (x .memory) own (t .sized) (t .cyclic) f some);
+            (formatted-shows (d .regs) (d .link .codec) (x .host) (d .microphone) i nanos capacity (streamAt d i) l q (x .memory) own (t .sized) (t .cyclic) (givenOf i downstream (d .regs)) f some);
       })
       (λ _ none. absurd none) some
 
-  from-own : (b : Bool) (w : Turns) (k : ℕ) → i + suc k ≡ streams → Waits (w .machine .hda) → Some (cond b (turnEvents nanos i (w .machine)) [])
+  from-own : (b : Bool) (w : Turns) (k : ℕ) → i + suc k ≡ streams → Waits (w .machine .hda) → Serves (cond b (turnEvents downstream nanos i (w .machine)) [])
       → Shown (further b w (eachOf goesOn (turnAt nanos) (suc k) i) .machine .hda)
   from-own true w k e t some =
       each-turn goesOn (turnAt nanos) (λ v. Shown (v .machine .hda)) k i w (own-shown w t some)
@@ -220,7 +220,7 @@ module _ (nanos i : ℕ) (own : i < streams) where
       (omega arith) (omega arith) p)
   from-own false w k e t none = absurd none
 
-  serve-shown : (x : Machine) → Waits (x .hda) → Some (serveEvents nanos i x) → Shown (serveOf nanos x .machine .hda)
+  serve-shown : (x : Machine) → Waits (x .hda) → Serves (serveEvents downstream nanos i x) → Shown (serveOf nanos x .machine .hda)
   unfolding serveOf serveEvents
   serve-shown x t some =
       let w = eachOf goesOn (turnAt nanos) i 0 (turnsOf false x) in
@@ -255,32 +255,22 @@ module _ (nanos i : ℕ) (own : i < streams) where
             (word-bound 4 (cbl i) regs (omega (arith, t .sized)) (t .bytes));
       }
 
-  commands-shows : (x : Machine) → Waits (x .hda) → Some (onlyIf (dmaOf (x .hda .config) (x .hda .regs)) (serveEvents nanos i x)) → Shows i (afterCommands nanos x .answer .hda)
+  commands-shows : (x : Machine) → Waits (x .hda) → Serves (onlyIf (dmaOf (x .hda .config) (x .hda .regs)) (serveEvents downstream nanos i x)) → Shows i (afterCommands nanos x .answer .hda)
   unfolding afterCommands
   commands-shows x t some =
       let w = serveOf nanos x in
-      by-both (λ (r : Done) (es : List Event). Some es → Shows i (r .answer .hda)) (dmaOf (x .hda .config) (x .hda .regs)) (finished (numberOf (w .refused)) (w .machine)) (finished 0 x)
-      (serveEvents nanos i x) [] (λ _ some. finished-shows (numberOf (w .refused)) (w .machine) (serve-shown x t some)) (λ _ none. absurd none) some
-
-  advanced-shows : (x : Machine) → Whole (x .hda) → Some (eventsOf i (calls.advance nanos) x) → Shows i (after (calls.advance nanos) x .hda)
-  unfolding after eventsOf advanceOf advanceStep advanceEvents
-  advanced-shows x t some =
-      let y = withCommanded x (x .host) (commandedOf (tickedOf nanos (x .hda)) (x .memory)) in
-      let P : Done → List Event → Type 0 = λ r es. Some es → Shows i (r .answer .hda) in
-      by-both P (eqb (checkMachine x) 0) (advanceStep nanos x) (unchanged (checkMachine x) x) (advanceEvents nanos i x) []
-      (λ _. by-not P (x .hda .paused || not (has 1 (byteAt (x .hda .regs) gctl))) (unchanged 0 x) (afterCommands nanos y) (onlyIf (dmaOf (y .hda .config) (y .hda .regs)) (serveEvents nanos i y)) []
-      (λ _ none. absurd none) (λ _. commands-shows y (clocked-waits x t)))
-      (λ _ none. absurd none) some
+      by-both (λ (r : Done) (es : List Event). Serves es → Shows i (r .answer .hda)) (dmaOf (x .hda .config) (x .hda .regs)) (finished (numberOf (w .refused)) (w .machine)) (finished 0 x)
+      (serveEvents downstream nanos i x) [] (λ _ some. finished-shows (numberOf (w .refused)) (w .machine) (serve-shown x t some)) (λ _ none. absurd none) some
 
   -- a stream that runs, whose format is supported and whose opening is not refused, has an event
   format-some : (x : Machine) (f : Format) → (f ≡ Unsupported → ⊥) → openStreamOf (x .host) (x .hda .microphone) i .ok ≡ true
       → let d = x .hda in
-      Some (formattedEvents (d .regs) (d .link .codec) (x .host) (d .microphone) i nanos capacity (streamAt d i) (partOf listSize i (x .lists)) (partOf capacity i (x .queues)) (x .memory) f)
+      Serves (formattedEvents (givenOf i downstream (d .regs)) (d .regs) (d .link .codec) (x .host) (d .microphone) i nanos capacity (streamAt d i) (partOf listSize i (x .lists)) (partOf capacity i (x .queues)) (x .memory) f)
   unfolding servedEvents
   format-some x Unsupported known live = absurd (known refl)
   format-some x (Rate rate) known live = rw live tt
 
-  served-some : (x : Machine) → Served i x → Some (turnEvents nanos i x)
+  served-some : (x : Machine) → Served i x → Serves (turnEvents downstream nanos i x)
   unfolding turnEvents
   served-some x s = rw (s .runs) (format-some x (formatOf (wordAt 2 (fmt i) (x .hda .regs))) (s .format) (s .opens))
 
@@ -289,8 +279,18 @@ module _ (nanos i : ℕ) (own : i < streams) where
       let regs = w .machine .hda .regs in
       own-shown w (record { sized = t .sized; count = t .count; cyclic = word-bound 4 (cbl i) regs (omega (arith, t .sized)) (t .bytes) }) (served-some (w .machine) s) .shows
 
-pub turned : (i : ℕ) → i < streams → (nanos : ℕ) (w : Turns) → Whole (w .machine .hda) → Served i (w .machine) → Shows i (turnAt nanos i w .machine .hda)
-turned i few nanos = turned-shows nanos i few
+advanced-shows : (nanos i : ℕ) (own : i < streams) (x : Machine) → Whole (x .hda) → Serves (eventsOf i (calls.advance nanos) x) → Shows i (after (calls.advance nanos) x .hda)
+unfolding after eventsOf advanceOf advanceStep advanceEvents
+advanced-shows nanos i own x t some =
+    let y = withCommanded x (x .host) (commandedOf (tickedOf nanos (x .hda)) (x .memory)) in
+    let P : Done → List Event → Type 0 = λ r es. Serves es → Shows i (r .answer .hda) in
+    by-both P (eqb (checkMachine x) 0) (advanceStep nanos x) (unchanged (checkMachine x) x) (advanceEvents nanos i x) []
+    (λ _. by-not P (x .hda .paused || not (has 1 (byteAt (x .hda .regs) gctl))) (unchanged 0 x) (afterCommands nanos y) (onlyIf (dmaOf (y .hda .config) (y .hda .regs)) (serveEvents (x .host .downstream) nanos i y)) []
+    (λ _ none. absurd none) (λ _. commands-shows (x .host .downstream) nanos i own y (clocked-waits (x .host .downstream) nanos i own x t)))
+    (λ _ none. absurd none) some
 
-pub advanced : (i : ℕ) → i < streams → (nanos : ℕ) (x : Machine) → Whole (x .hda) → Some (eventsOf i (calls.advance nanos) x) → Shows i (after (calls.advance nanos) x .hda)
+pub turned : (i : ℕ) → i < streams → (nanos : ℕ) (w : Turns) → Whole (w .machine .hda) → Served i (w .machine) → Shows i (turnAt nanos i w .machine .hda)
+turned i few nanos = turned-shows 0 nanos i few
+
+pub advanced : (i : ℕ) → i < streams → (nanos : ℕ) (x : Machine) → Whole (x .hda) → Serves (eventsOf i (calls.advance nanos) x) → Shows i (after (calls.advance nanos) x .hda)
 advanced i few nanos = advanced-shows nanos i few

@@ -25,7 +25,7 @@ use Rattle.book.specs.Book.{Book, note}
 use Rattle.book.specs.Events.{restoredEvent}
 use Rattle.book.specs.Lists.{Step, run, allEvents, pendingOf, openingOf, bookOf}
 use Rattle.book.specs.Claim.{Rises, Starts, new, restored, made, Accepts, Opens, Agrees, NoRestore, Spaced}
-use Rattle.book.proofs.Ghosts.{Ghost, ghost, sees, sees-book, never-full}
+use Rattle.book.proofs.Ghosts.{Ghost, ghost, sees, sees-book, few-seen, founded-seen, few-unlimited}
 use Rattle.book.proofs.Orders.{rises-all, four-apart}
 use Rattle.book.proofs.Tied.{Tied, tied-opening}
 use Rattle.book.proofs.Machines.{Held, part-size}
@@ -36,11 +36,11 @@ fresh-ahead : stream.freshOf .submitted ≤ stream.freshOf .consumed + 16384
 unfolding stream.freshOf
 fresh-ahead = omega arith
 
-abbrev opened : ℕ → Machine → Ghost
-opened i x = ghost (openingOf i x) false
+abbrev pub opened : ℕ → Machine → Ghost
+opened i x = ghost (openingOf i x) false false
 
 module _ (F : Type 0) (i : ℕ) (few : i < streams) where
-  abbrev Begins : Machine → Type 0
+  abbrev pub Begins : Machine → Type 0
   Begins x = Held F i (x .hda .streams) (x .lists) (opened i x)
 
   begins : (x : Machine) → length (x .hda .streams) ≡ streams → listSize * streams ≤ length (x .lists)
@@ -50,25 +50,25 @@ module _ (F : Type 0) (i : ℕ) (few : i < streams) where
       record {
         count = count;
         space = space;
-        own = tied-opening F (streamAt (x .hda) i) (partOf listSize i (x .lists)) (pendingOf i x) false (part-size i (x .lists) few space) valid refl spaced ahead (λ _. refl);
+        own = tied-opening F (streamAt (x .hda) i) (partOf listSize i (x .lists)) (pendingOf i x) false (part-size i (x .lists) few space) valid refl spaced ahead (λ _. refl) false refl;
       }
 
   -- a new device's streams
-  fresh-at : (microphone : Bool) → streamAt (freshOf microphone) i ≡ stream.freshOf
+  pub fresh-at : (microphone : Bool) → streamAt (freshOf microphone) i ≡ stream.freshOf
   unfolding freshOf
   fresh-at microphone = getD-replicate streams i stream.freshOf stream.freshOf few
 
-  fresh-count : (microphone : Bool) → length (freshOf microphone .streams) ≡ streams
+  pub fresh-count : (microphone : Bool) → length (freshOf microphone .streams) ≡ streams
   unfolding freshOf
   fresh-count microphone = length-replicate streams stream.freshOf
 
-  new-begins : (microphone : Bool) (h : Host) (lists queues memory : List ℕ) → listSize * streams ≤ length lists → Begins (made microphone h lists queues memory)
+  pub new-begins : (microphone : Bool) (h : Host) (lists queues memory : List ℕ) → listSize * streams ≤ length lists → Begins (made microphone h lists queues memory)
   new-begins microphone h lists queues memory long =
       begins (made microphone h lists queues memory) (fresh-count microphone) long (rw (fresh-at microphone) (fresh-valid (partOf listSize i lists)))
       (λ _. rw (fresh-at microphone) (fresh-spaced (partOf listSize i lists))) (λ _. rw (fresh-at microphone) fresh-ahead)
 
 -- a restored one's
-restored-begins : (i : ℕ) (few : i < streams) (s : List ℕ) (x : Machine) → Accepts s x → Begins ⊥ i few (after (calls.restore s) x)
+pub restored-begins : (i : ℕ) (few : i < streams) (s : List ℕ) (x : Machine) → Accepts s x → Begins ⊥ i few (after (calls.restore s) x)
 unfolding after
 restored-begins i few s x e =
     let y = after (calls.restore s) x in
@@ -81,11 +81,11 @@ started i few x (new microphone h lists queues memory long wide) = new-begins �
 started i few x (restored s y e) = restored-begins i few s y e
 
 -- the book's start
-fresh-opens : (i : ℕ) → i < streams → (microphone : Bool) (h : Host) (lists queues memory : List ℕ) → openingOf i (made microphone h lists queues memory) ≡ book.made
+pub fresh-opens : (i : ℕ) → i < streams → (microphone : Bool) (h : Host) (lists queues memory : List ℕ) → openingOf i (made microphone h lists queues memory) ≡ book.made
 unfolding stream.freshOf positionsOf
 fresh-opens i few microphone h lists queues memory = rw (fresh-at ⊥ i few microphone)
 
-resumed-opens : (i : ℕ) → i < streams → (s : List ℕ) (x : Machine) → Accepts s x → (b : Book) → openingOf i (after (calls.restore s) x) ≡ note (restoredEvent s i) b
+pub resumed-opens : (i : ℕ) → i < streams → (s : List ℕ) (x : Machine) → Accepts s x → (b : Book) → openingOf i (after (calls.restore s) x) ≡ note (restoredEvent s i) b
 unfolding after
 resumed-opens i few s x e b =
     let q = length (x .queues) in
@@ -108,6 +108,7 @@ agrees i few cs x start =
       heard = v .heard;
       rises = rises-all _ (pendingOf i (run cs x)) _ (v .heard) (v .rises);
       exact = subst (λ (b : Book). b .ends ≡ b .retired ++ b .pending) same (t .exact);
+      founded = founded-seen es (opened i x) (t .founded);
     }
 
 -- the retired positions rise strictly and none is above consumed
@@ -127,8 +128,19 @@ module _ (i : ℕ) (few : i < streams) (cs : List Step) (microphone : Bool) (h :
   alone : Tied (Unit {0}) (streamAt (run cs first .hda) i) (partOf listSize i (run cs first .lists)) (sees (allEvents i cs first) (opened i first))
   alone = run-held (Unit {0}) i few cs first (opened i first) (λ _. none) (new-begins (Unit {0}) i few microphone h lists queues memory long) .own
 
+  -- none is pending at the start
+  begun : length (openingOf i first .pending) < book.limit
+  begun = let none = ap (λ (b : Book). length (b .pending)) (fresh-opens i few microphone h lists queues memory) in omega (arith, none)
+
   pub spaced : Spaced i cs first
-  spaced = record { apart = four-apart _ _ (pendingOf i (run cs first)) (alone .spaced tt); never = never-full (allEvents i cs first) (opened i first) (alone .never tt) }
+  spaced =
+      let es = allEvents i cs first in
+      let few = few-seen es (opened i first) begun (alone .never tt) in
+      record {
+        apart = four-apart _ _ (pendingOf i (run cs first)) (alone .spaced tt);
+        never = few;
+        otherwise = few-unlimited es (openingOf i first) few (founded-seen es (opened i first) (alone .founded));
+      }
 
   pub near : let s = streamAt (run cs first .hda) i in s .submitted ≤ s .consumed + 16384
   near = alone .ahead tt

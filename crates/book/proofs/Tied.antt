@@ -1,8 +1,8 @@
 -- A stream tied to the book: its counts and pending positions are the book's, nothing is lost or retired early, it is valid; and, where `F` holds, its positions are 4 apart, it
--- is at most 16,384 bytes ahead of what is heard, and the limit has stopped no transfer. What each event keeps of it. Assumes nothing.
+-- is at most 16,384 bytes ahead of what is heard, and 4,352 were never pending; no transfer has failed without its reason. What each event keeps of it. Assumes nothing.
 use Prim.Native.Nat.{ℕ, _+_, _-_, _≤_, _<_, max}
 use mathlib.Core.Path.{_≡_, refl, sym, ap, subst, _∙_}
-use mathlib.Core.Bool.{Bool, true, false}
+use mathlib.Core.Bool.{Bool, true, false, not, _||_}
 use mathlib.Core.List.{List, [], _∷_, _++_, append-nil, append-assoc}
 use native.Mathlib.Omega.{arith}
 use lib.ListN.{length}
@@ -24,11 +24,12 @@ use Rattle.pieces.proofs.Positions.{moved-positions}
 use Rattle.pieces.proofs.Spacing.{SpacedAt, fresh-spaced, update-spaced, moved-spaced}
 use Rattle.turn.specs.Engines.{withFraction}
 use Rattle.turn.proofs.Rounds.{time}
-use Rattle.book.specs.Book.{Book, reset, moved, updated, upTo, above, restoredWith, movedBy, note}
+use Rattle.book.specs.Book.{Book, limit, Attempt, reset, moved, updated, failed, refused, upTo, above, restoredWith, movedBy, note}
+use Rattle.book.specs.Reasons.{isFounded}
 use Rattle.book.specs.Events.{flaggedOf}
 use Rattle.book.specs.Claim.{Rises}
-use Rattle.book.proofs.Ghosts.{Ghost, ghost, see}
-use Rattle.book.proofs.Orders.{rises-all, rises-same, rises-append, up-rises, above-drop, halves}
+use Rattle.book.proofs.Ghosts.{Ghost, ghost, isFull, see, none-full}
+use Rattle.book.proofs.Orders.{rises-all, rises-same, rises-append, up-rises, above-drop, halves, few-pending}
 
 pub record Tied (F : Type 0) (s : Stream) (l : List ℕ) (a : Ghost) : Type 0 where
   pub sized : length l ≡ listSize
@@ -41,6 +42,15 @@ pub record Tied (F : Type 0) (s : Stream) (l : List ℕ) (a : Ghost) : Type 0 wh
   pub spaced : F → SpacedAt s l
   pub ahead : F → s .submitted ≤ s .consumed + 16384
   pub never : F → a .full ≡ false
+  pub founded : a .groundless ≡ false
+
+-- few are pending where positions are 4 apart and the stream is at most 16,384 bytes ahead
+few-now : (s : Stream) (l ps : List ℕ) → validOf s l ≡ true → positionsOf (s .pending) l ≡ ps → SpacedAt s l → s .submitted ≤ s .consumed + 16384 → length ps < limit
+few-now s l ps valid e spaced ahead =
+    let v = valid-parts s l valid in
+    let view = positionsOf (s .pending) l in
+    subst (λ (qs : List ℕ). length qs < limit) e
+    (few-pending (s .consumed) (s .offset) (s .submitted) view spaced (rises-all (s .consumed) view (s .submitted) (v .heard) (v .rises)) ahead)
 
 -- what a moved piece does to the book
 moved-submitted : (n : ℕ) (f : Bool) (b : Book) → movedBy n f b .submitted ≡ b .submitted + n
@@ -82,12 +92,40 @@ module _ (F : Type 0) where
         spaced = t .spaced;
         ahead = t .ahead;
         never = t .never;
+        founded = t .founded;
       }
 
+  -- an event that lets the book stand, where it is no failure without its reason
+  tied-kept : (s : Stream) (l : List ℕ) (a : Ghost) (groundless : Bool) → groundless ≡ false → Tied F s l a
+      → Tied F s l (ghost (a .book) (isFull (a .book .pending) (a .full)) (groundless || a .groundless))
+  tied-kept s l a groundless e t =
+      record {
+        sized = t .sized;
+        valid = t .valid;
+        submitted = t .submitted;
+        consumed = t .consumed;
+        pending = t .pending;
+        exact = t .exact;
+        past = t .past;
+        spaced = t .spaced;
+        ahead = t .ahead;
+        never = λ f. none-full (a .book .pending) (a .full) (few-now s l (a .book .pending) (t .valid) (t .pending) (t .spaced f) (t .ahead f)) (t .never f);
+        founded = rw e (t .founded);
+      }
+
+  -- an opening that was refused, and a transfer that failed for a reason
+  pub tied-refused : (s : Stream) (l : List ℕ) (a : Ghost) → Tied F s l a → Tied F s l (see refused a)
+  unfolding note
+  tied-refused s l a t = tied-kept s l a false refl t
+
+  pub tied-failed : (s : Stream) (l : List ℕ) (a : Ghost) (attempt : Attempt) → isFounded attempt (a .book) ≡ true → Tied F s l a → Tied F s l (see (failed attempt) a)
+  unfolding note
+  tied-failed s l a attempt reason t = tied-kept s l a (not (isFounded attempt (a .book))) (rw reason) t
+
   -- made or reset
-  pub tied-reset : (l : List ℕ) (a : Ghost) → length l ≡ listSize → (F → a .full ≡ false) → Tied F freshOf l (see reset a)
+  pub tied-reset : (l : List ℕ) (a : Ghost) → length l ≡ listSize → (F → a .full ≡ false) → a .groundless ≡ false → Tied F freshOf l (see reset a)
   unfolding freshOf note positionsOf
-  tied-reset l a sized never =
+  tied-reset l a sized never founded =
       record {
         sized = sized;
         valid = fresh-valid l;
@@ -98,14 +136,27 @@ module _ (F : Type 0) where
         past = omega arith;
         spaced = λ _. fresh-spaced l;
         ahead = λ _. omega arith;
-        never = never;
+        never = λ f. none-full [] (a .full) (omega arith) (never f);
+        founded = founded;
       }
 
   -- the first device, or one restored: counts and positions as they are
   pub tied-opening : (s : Stream) (l ps : List ℕ) (full : Bool) → length l ≡ listSize → validOf s l ≡ true → positionsOf (s .pending) l ≡ ps → (F → SpacedAt s l)
-      → (F → s .submitted ≤ s .consumed + 16384) → (F → full ≡ false) → Tied F s l (ghost (restoredWith (s .submitted) (s .consumed) ps) full)
-  tied-opening s l ps full sized valid e spaced ahead never =
-      record { sized = sized; valid = valid; submitted = refl; consumed = refl; pending = e; exact = refl; past = omega arith; spaced = spaced; ahead = ahead; never = never }
+      → (F → s .submitted ≤ s .consumed + 16384) → (F → full ≡ false) → (groundless : Bool) → groundless ≡ false → Tied F s l (ghost (restoredWith (s .submitted) (s .consumed) ps) full groundless)
+  tied-opening s l ps full sized valid e spaced ahead never groundless founded =
+      record {
+        sized = sized;
+        valid = valid;
+        submitted = refl;
+        consumed = refl;
+        pending = e;
+        exact = refl;
+        past = omega arith;
+        spaced = spaced;
+        ahead = ahead;
+        never = never;
+        founded = founded;
+      }
 
   -- the position update
   pub tied-updated : (s : Stream) (l : List ℕ) (a : Ghost) (latency : ℕ) → Tied F s l a
@@ -121,21 +172,28 @@ module _ (F : Type 0) where
       let c′ = max (b .consumed) (b .submitted - latency) in
       let same : c ≡ c′ = rw (t .consumed, t .submitted) in
       let r : Rises (s .consumed) view (s .submitted) = rises-all (s .consumed) view (s .submitted) (v .heard) (v .rises) in
+      let u = updateOf s l latency in
+      let valid : validOf (u .updated .stream) (u .list) ≡ true = update-valid s l latency room (t .valid) in
+      let pending : positionsOf (u .updated .stream .pending) (u .list) ≡ above c′ (b .pending) =
+      retire-drops k (s .pending) l (retired-few s l latency) (omega (arith, v .few))
+      ∙ sym (above-drop c (s .consumed) view (s .submitted) r) ∙ ap (λ (n : ℕ). above n view) same ∙ ap (above c′) (t .pending) in
+      let spaced : F → SpacedAt (u .updated .stream) (u .list) = λ f. update-spaced s l latency (v .few) room (t .spaced f) in
+      let ahead : F → u .updated .stream .submitted ≤ u .updated .stream .consumed + 16384 = λ f. omega (arith, t .ahead f) in
       record {
         sized = update-list-length s l latency (v .few) room ∙ t .sized;
-        valid = update-valid s l latency room (t .valid);
+        valid = valid;
         submitted = t .submitted;
         consumed = same;
-        pending = retire-drops k (s .pending) l (retired-few s l latency) (omega (arith, v .few))
-            ∙ sym (above-drop c (s .consumed) view (s .submitted) r) ∙ ap (λ (n : ℕ). above n view) same ∙ ap (above c′) (t .pending);
+        pending = pending;
         exact = t .exact
             ∙ ap (λ (ps : List ℕ). b .retired ++ ps) (sym (subst (λ (ps : List ℕ). upTo c′ ps ++ above c′ ps ≡ ps) (t .pending) (halves c′ (s .consumed) view (s .submitted) r)))
             ∙ sym (append-assoc (b .retired) (upTo c′ (b .pending)) (above c′ (b .pending)));
         past = rises-append 0 (b .retired) (b .consumed) (upTo c′ (b .pending)) c′ (t .past)
             (up-rises c′ (b .consumed) (b .pending) (s .submitted) (omega arith) (rises-same (t .consumed) (t .pending) refl r));
-        spaced = λ f. update-spaced s l latency (v .few) room (t .spaced f);
-        ahead = λ f. omega (arith, t .ahead f);
-        never = t .never;
+        spaced = spaced;
+        ahead = ahead;
+        never = λ f. none-full (above c′ (b .pending)) (a .full) (few-now (u .updated .stream) (u .list) (above c′ (b .pending)) valid pending (spaced f) (ahead f)) (t .never f);
+        founded = t .founded;
       }
 
   -- a piece
@@ -148,18 +206,27 @@ module _ (F : Type 0) where
         let s = x .stream in
         let b = a .book in
         let long : listSize ≤ length (x .list) = omega (arith, t .sized) in
+        let y = movedOf g x at n end in
+        let ps = movedBy n (flaggedOf end) b .pending in
+        let valid : validOf (y .stream) (y .list) ≡ true =
+        parts-valid _ _ (moved-kept g count byte x at n end more k (long, valid-parts s (x .list) (t .valid)) .1) in
+        let pending : positionsOf (y .stream .pending) (y .list) ≡ ps =
+        moved-positions s (x .list) (g .lvi) n end (k .room) (k .submitted) long
+        ∙ ap (λ (ps : List ℕ). ps ++ endedOf (s .submitted + n) end) (t .pending)
+        ∙ ap (λ (m : ℕ). b .pending ++ endedOf (m + n) end) (t .submitted)
+        ∙ sym (moved-pending n end b) in
+        let spaced : F → SpacedAt (y .stream) (y .list) = λ f. moved-spaced g count x at n end k long (t .spaced f) in
+        let ahead : F → y .stream .submitted ≤ y .stream .consumed + 16384 = λ f. omega (arith, room f, next-submitted s (g .lvi) n end, next-consumed s (g .lvi) n end) in
         record {
           sized = length-list (x .list) s n end (k .room) long ∙ t .sized;
-          valid = parts-valid _ _ (moved-kept g count byte x at n end more k (long, valid-parts s (x .list) (t .valid)) .1);
+          valid = valid;
           submitted = next-submitted s (g .lvi) n end ∙ ap (λ (m : ℕ). m + n) (t .submitted) ∙ sym (moved-submitted n (flaggedOf end) b);
           consumed = next-consumed s (g .lvi) n end ∙ t .consumed ∙ sym (moved-consumed n (flaggedOf end) b);
-          pending = moved-positions s (x .list) (g .lvi) n end (k .room) (k .submitted) long
-              ∙ ap (λ (ps : List ℕ). ps ++ endedOf (s .submitted + n) end) (t .pending)
-              ∙ ap (λ (m : ℕ). b .pending ++ endedOf (m + n) end) (t .submitted)
-              ∙ sym (moved-pending n end b);
+          pending = pending;
           exact = moved-exact n (flaggedOf end) b (t .exact);
           past = moved-past n (flaggedOf end) b (t .past);
-          spaced = λ f. moved-spaced g count x at n end k long (t .spaced f);
-          ahead = λ f. omega (arith, room f, next-submitted s (g .lvi) n end, next-consumed s (g .lvi) n end);
-          never = t .never;
+          spaced = spaced;
+          ahead = ahead;
+          never = λ f. none-full ps (a .full) (few-now (y .stream) (y .list) ps valid pending (spaced f) (ahead f)) (t .never f);
+          founded = t .founded;
         }

@@ -1,43 +1,52 @@
 -- A stream's turn keeps it tied to the book: the position update, a transfer, the rounds, the turn. Assumes nothing.
 use Prim.Native.Nat.{ℕ, zero, suc, _+_, _-_, _*_, _/_, _≤_, _<_, min}
-use mathlib.Core.Path.{_≡_, refl, sym, _∙_}
-use mathlib.Core.Bool.{Bool, true, false, true≢false}
+use mathlib.Core.Path.{_≡_, refl, sym, ap, subst, _∙_}
+use mathlib.Core.Bool.{Bool, true, false, not, _&&_, true≢false}
 use mathlib.Core.List.{List, [], _∷_}
 use mathlib.Core.Logic.{_⊎_, inl, inr, ⊎-elim}
 use native.Mathlib.Omega.{arith}
 use borrow.Author.Tests.{leb-true, eqb-false}
 use lib.Dec.{leb, eqb}
-use Rattle.word.proofs.Choices.{left, by-cond, by-both}
+use lib.ListN.{length, length-set}
+use lib.Seq.{getD-set-same}
+use Rattle.word.proofs.Choices.{left, by-test, by-cond, by-both}
 use Rattle.format.specs.declared.Format.{Format}
 use Rattle.format.specs.declared.Format.the-variants.{Unsupported, Rate}
 use Rattle.codec.specs.declared.Codec.{Codec}
 use Rattle.clock.specs.Frames.{wholeFramesOf}
 use Rattle.clock.proofs.Theorems.{accrue-bound}
+use Rattle.positions.proofs.View.{length-positions}
 use Rattle.stream.specs.declared.Stream.{Stream}
+use Rattle.stream.specs.declared.Cyclic.{Cyclic}
+use Rattle.stream.specs.Box.{captures}
 use Rattle.stream.specs.Update.{updateOf}
-use Rattle.plan.specs.Plans.{readyOf}
+use Rattle.plan.specs.Plans.{readyOf, planOf}
 use Rattle.plan.proofs.Laws.{ready-byte}
 use Rattle.pieces.specs.Pieces.{State, stateOf, piecesOf}
+use Rattle.pieces.proofs.Facts.{pieces-submitted, pieces-done}
 use Rattle.queue.specs.declared.Queue.{Queue}
-use Rattle.queue.specs.Queues.{capacity, latencyOf}
+use Rattle.queue.specs.Queues.{capacity, queue, closed, latencyOf, putOf, takeOf}
 use Rattle.queue.proofs.Validity.{queue-bound}
 use Rattle.transfer.specs.Transfers.{Transfer, transferOut, withPieces, silence, takenOf, capturedOf, captureOf, playbackOf, transferOf}
+use Rattle.transfer.proofs.Laws.{ready-cyclic}
 use Rattle.host.specs.declared.Host.{Host}
 use Rattle.host.specs.Hosts as hosts
-use Rattle.host.specs.Hosts.{queueAt}
+use Rattle.host.specs.declared.Opening.{Opening}
+use Rattle.host.specs.Hosts.{queueAt, withQueue, failsOf, openingOf, openOf}
 use Rattle.host.proofs.Checks.{valid-queue}
 use Rattle.turn.specs.declared.Setup.{Setup}
 use Rattle.turn.specs.declared.Engine.{Engine}
 use Rattle.turn.specs.Setups.{setupOf}
 use Rattle.turn.specs.Engines.{Work, workOf, engine, stoppedOf, movedOn, Updated, updatedOf, withUpdated, framesOf, transferredOf, transferAt, settledOf, roundOf, again, roundsOf, accruedOf, dueOf, timedOf, servedOf}
 use Rattle.turn.specs.Turns.{openStreamOf, engineOf, Turn, formattedOf}
-use Rattle.turn.proofs.Facts.{frames-few, publish-by, transfer-queued}
+use Rattle.turn.proofs.Facts.{frames-few, publish-by, transfer-queue, transfer-queued}
 use Rattle.turn.proofs.Validity.{open-stream-valid}
-use Rattle.book.specs.Book.{Event, failed, note}
-use Rattle.book.specs.Events.{onlyIf, piecesEvents, transferEvents, updateEvent, roundEvents, againRounds, roundsEvents, timedEvents, servedEvents, formattedEvents}
+use Rattle.book.specs.Book.{Event, updated, failed, refused}
+use Rattle.book.specs.Events.{onlyIf, Given, givenOf, piecesEvents, samplesOf, attemptOf, leftOf, failureEvents, transferEvents, unheard, updateEvent, roundEvents, againRounds, roundsEvents, timedEvents, servedEvents, formattedEvents}
 use Rattle.book.proofs.Ghosts.{Ghost, see, sees, sees-append}
-use Rattle.book.proofs.Tied.{Tied, tied-times, tied-updated}
-use Rattle.book.proofs.Pieces.{Going, pieces-tied}
+use Rattle.book.proofs.Tied.{Tied, tied-times, tied-refused, tied-failed, tied-updated}
+use Rattle.book.proofs.Reasons.{bufferOf, moves, Reasoned, unready-reasoned, unmoved-reasoned}
+use Rattle.book.proofs.Pieces.{pieces-tied, pieces-stuck}
 
 pub update-near : (s : Stream) (l : List ℕ) (latency : ℕ) → let u = updateOf s l latency .updated .stream in u .submitted ≤ u .consumed + latency
 unfolding updateOf
@@ -62,7 +71,14 @@ module _ (F : Type 0) where
   unfolding stoppedOf
   stopped-none g e = omega (arith, frames-few g (stoppedOf e) .0)
 
-  module _ (g : Setup) (down : g .downstream ≤ 14336) (limited : g .limit ≤ capacity) where
+  -- a playback's queue is up; its latency is then the book's
+  abbrev Opened : Setup → Queue → Type 0
+  Opened g q = g .cyclic .capture ≡ false → q .live ≡ true
+
+  abbrev Latency : Setup → Given → Type 0
+  Latency g v = (q : Queue) → Opened g q → latencyOf q (g .cyclic .capture) (g .downstream) ≡ unheard v (q .length)
+
+  module _ (v : Given) (g : Setup) (same : Latency g v) (buffered : g .cyclic ≡ bufferOf v) (down : g .downstream ≤ 14336) (limited : g .limit ≤ capacity) where
     -- the frames of the next transfer fit behind what the host holds
     frames-room : (e : Engine) → e .queue .length ≤ capacity → 4 * framesOf g e + latencyOf (e .queue) (g .cyclic .capture) (g .downstream) ≤ 16384
     unfolding framesOf latencyOf
@@ -74,29 +90,67 @@ module _ (F : Type 0) where
     -- between transfers: while it runs, and where frames are due, an update came before, so that it is ahead by no more than the host holds
     record Heard (e : Engine) (l : List ℕ) (a : Ghost) : Type 0 where
       still : Still F (e .stream) (e .queue) l a
+      opened : (e .running ≡ true) ⊎ (0 < framesOf g e) → Opened g (e .queue)
       near : (e .running ≡ true) ⊎ (0 < framesOf g e) → e .stream .submitted ≤ e .stream .consumed + latencyOf (e .queue) (g .cyclic .capture) (g .downstream)
 
     stopped-heard : (e : Engine) (l : List ℕ) (a : Ghost) → Still F (e .stream) (e .queue) l a → Heard (stoppedOf e) l a
     stopped-heard e l a t =
-        record { still = stopped-still e l a t; near = ⊎-elim (λ z. absurd (true≢false (sym z ∙ stopped-off e))) (λ some. absurd (omega (arith, some, stopped-none g e))) }
+        record {
+          still = stopped-still e l a t;
+          opened = ⊎-elim (λ z. absurd (true≢false (sym z ∙ stopped-off e))) (λ some. absurd (omega (arith, some, stopped-none g e)));
+          near = ⊎-elim (λ z. absurd (true≢false (sym z ∙ stopped-off e))) (λ some. absurd (omega (arith, some, stopped-none g e)));
+        }
 
     -- the position update
-    updated-heard : (e : Engine) (l m : List ℕ) (a : Ghost) → Still F (e .stream) (e .queue) l a
-        → let u = updatedOf g e l m in Heard (u .engine) (u .list) (see (updateEvent g e) a)
+    updated-heard : (e : Engine) (l m : List ℕ) (a : Ghost) → Opened g (e .queue) → Still F (e .stream) (e .queue) l a
+        → let u = updatedOf g e l m in Heard (u .engine) (u .list) (see (updateEvent v e) a)
     unfolding updatedOf
-    updated-heard e l m a t =
+    updated-heard e l m a up t =
         let latency = latencyOf (e .queue) (g .cyclic .capture) (g .downstream) in
         let u = updateOf (e .stream) l latency in
-        let a′ = see (updateEvent g e) a in
+        let a′ = see (updated latency) a in
         let e′ = movedOn g e (u .updated .stream) (u .updated .completed) in
         let still : Still F (e′ .stream) (e′ .queue) (u .list) a′ = record { tied = tied-updated F (e .stream) l a latency (t .tied); queued = t .queued } in
-        publish-by g e′ m (λ e″. Heard e″ (u .list) a′) (record { still = still; near = λ _. update-near (e .stream) l latency }) (stopped-heard e′ (u .list) a′ still)
+        rw (← same (e .queue) up)
+        (publish-by g e′ m (λ e″. Heard e″ (u .list) a′) (record { still = still; opened = λ _. up; near = λ _. update-near (e .stream) l latency })
+        (stopped-heard e′ (u .list) a′ still))
+
+    -- a transfer leaves a queue up
+    moved-opened : (x : Work) (n : ℕ) → Opened g (x .engine .queue) → Opened g (transferAt g x n .transferred .queue)
+    unfolding takeOf putOf
+    moved-opened x n up =
+        let e = x .engine in
+        transfer-queue (g .cyclic) (e .stream) (e .queue) (g .connected) (g .left) (g .right) (x .list) (x .part) (x .memory) (4 * n) (Opened g) up up (λ pcm. up)
+
+    -- a transfer that failed has its reason, by the book that the stream is tied to
+    founded-by : (s : Stream) (l m : List ℕ) (left : ℕ) (a : Ghost) → Tied F s l a → Reasoned v s m left → Tied F s l (see (failed (attemptOf v s m left)) a)
+    founded-by s l m left a t reason =
+        let pending : length (a .book .pending) ≡ s .pending = ap length (sym (t .pending)) ∙ length-positions (s .pending) l in
+        tied-failed F s l a (attemptOf v s m left) (rw (← t .submitted, pending) reason) t
+
+    -- what the pieces of `count` bytes leave, with the failure where they stopped
+    pieces-ended : (s : Stream) (l m pcm : List ℕ) (count : ℕ) (a : Ghost) → 0 < g .cyclic .cbl
+        → let y = stateOf s l m pcm 0 in
+        let o = piecesOf count (g .cyclic) count y in
+        let z = o .state in
+        Tied F (z .stream) (z .list) a → Tied F (z .stream) (z .list) (sees (failureEvents v (o .ok) (z .stream) (z .memory) (leftOf s (z .stream) count)) a)
+    pieces-ended s l m pcm count a some t =
+        let y = stateOf s l m pcm 0 in
+        let o = piecesOf count (g .cyclic) count y in
+        let z = o .state in
+        let left : leftOf s (z .stream) count ≡ count - z .done = let grown = pieces-submitted (g .cyclic) count count y in omega (arith, grown) in
+        by-test (o .ok)
+        (λ ok. let none : leftOf s (z .stream) count ≡ 0 = let all = pieces-done (g .cyclic) count some count y (omega arith) (omega arith) ok in omega (arith, left, all) in rw (ok, none) t)
+        (λ stopped. rw (stopped, left)
+        (founded-by (z .stream) (z .list) (z .memory) (count - z .done) a t
+        (unmoved-reasoned v (z .stream) (z .memory) (count - z .done)
+        (subst (λ (c : Cyclic). moves (planOf c (z .stream) (z .memory) (count - z .done)) ≡ false) buffered (pieces-stuck (g .cyclic) count count y stopped)))))
 
     -- a transfer
     moved-still : (x : Work) (n : ℕ) (a : Ghost) → n ≤ 256 → Still F (x .engine .stream) (x .engine .queue) (x .list) a
         → (F → x .engine .stream .submitted + 4 * n ≤ x .engine .stream .consumed + 16384)
-        → let t = transferAt g x n in Still F (t .transferred .stream) (t .transferred .queue) (t .list) (sees (transferEvents g x (4 * n)) a)
-    unfolding transferOf captureOf playbackOf transferEvents note
+        → let t = transferAt g x n in Still F (t .transferred .stream) (t .transferred .queue) (t .list) (sees (transferEvents v g x n) a)
+    unfolding transferOf captureOf playbackOf transferEvents
     moved-still x n a short h room =
         let e = x .engine in
         let c = g .cyclic in
@@ -104,74 +158,79 @@ module _ (F : Type 0) where
         let q = e .queue in
         let count = 4 * n in
         let start : List ℕ → State = λ pcm. stateOf s (x .list) (x .memory) pcm 0 in
-        let P : Transfer → List Event → Type 0 = λ t es. Tied F (t .transferred .stream) (t .list) (sees es a) in
+        let ended : Transfer → List Event = λ t. failureEvents v (t .transferred .ok) (t .transferred .stream) (t .memory) (leftOf s (t .transferred .stream) count) in
+        let P : Transfer → List Event → Type 0 = λ t es. Tied F (t .transferred .stream) (t .list) (sees (ended t) (sees es a)) in
         let Q : Transfer → List ℕ → Type 0 = λ t pcm. P t (piecesEvents count c count (start pcm)) in
         let taken = takenOf (g .connected) q (x .part) count in
         let sound = capturedOf (g .connected) (g .left) (g .right) (x .part) taken count in
         let o = piecesOf count c count (start (silence count)) in
         record {
-          tied = by-both P (readyOf c) _ (transferOut false false s q (x .list) (x .part) (x .memory)) _ (failed false ∷ [])
+          tied = rw (sees-append (onlyIf (readyOf c) (piecesEvents count c count (start (samplesOf c q (g .connected) (g .left) (g .right) (x .part) count)))) (ended (transferAt g x n)) a)
+              (by-both P (readyOf c) _ (transferOut false false s q (x .list) (x .part) (x .memory)) _ []
               (λ ready.
-              let each : (pcm : List ℕ) → Going F count (piecesOf count c count (start pcm) .state) (sees (piecesEvents count c count (start pcm)) a) =
-              λ pcm. pieces-tied F c count (omega arith) (ready-byte c ready) count (start pcm) a
-              (record { tied = h .tied; room = λ f. omega (arith, room f) }) in
+              let each : (pcm : List ℕ) → let z = piecesOf count c count (start pcm) in Q (withPieces z q (x .part)) pcm =
+              λ pcm. pieces-ended s (x .list) (x .memory) pcm count (sees (piecesEvents count c count (start pcm)) a) (ready-cyclic c ready)
+              (pieces-tied F c count (ready-byte c ready) count (start pcm) a (record { tied = h .tied; room = λ f. omega (arith, room f) }) .tied) in
               by-both Q (c .capture) (captureOf c s q (g .connected) (g .left) (g .right) (x .list) (x .part) (x .memory) count)
               (playbackOf c s q (g .connected) (g .left) (g .right) (x .list) (x .part) (x .memory) count) sound (silence count)
-              (λ _. each sound .tied)
-              (λ _. by-cond (λ t. Q t (silence count)) (o .ok) _ (withPieces o q (x .part)) (λ _. each (silence count) .tied) (λ _. each (silence count) .tied)))
-              (λ _. h .tied);
+              (λ _. each sound)
+              (λ _. by-cond (λ t. Q t (silence count)) (o .ok) _ (withPieces o q (x .part)) (λ _. each (silence count)) (λ _. each (silence count))))
+              (λ unready. founded-by s (x .list) (x .memory) (leftOf s s count) a (h .tied)
+              (unready-reasoned v s (x .memory) (leftOf s s count) (ap readyOf (sym buffered) ∙ unready))));
           queued = transfer-queued c s q (g .connected) (g .left) (g .right) (x .list) (x .part) (x .memory) count (h .queued);
         }
 
     abbrev Ready : Work → Ghost → Type 0
     Ready x a = Heard (x .engine) (x .list) a
 
-    round-ready : (x : Work) (a : Ghost) → 0 < framesOf g (x .engine) → Ready x a → Ready (roundOf g x) (sees (roundEvents g x) a)
+    round-ready : (x : Work) (a : Ghost) → 0 < framesOf g (x .engine) → Ready x a → Ready (roundOf g x) (sees (roundEvents v g x) a)
     unfolding roundOf settledOf roundEvents
     round-ready x a some r =
         let e = x .engine in
         let n = framesOf g e in
         let t = transferAt g x n in
         let t′ = t .transferred in
-        let es = transferEvents g x (4 * n) in
+        let es = transferEvents v g x n in
         let a′ = sees es a in
         let moved = moved-still x n a (frames-few g e .1) (r .still) (λ _. omega (arith, r .near (inr some), frames-room e (r .still .queued))) in
+        let up = moved-opened x n (r .opened (inr some)) in
         let e′ = transferredOf e (t′ .stream) (t′ .queue) n in
         let e″ = engine (e .running) (e .status) (e .position) (t′ .stream) (t′ .queue) in
         let P : Updated → List Event → Type 0 = λ u fs. Ready (withUpdated u (t .part)) (sees fs a′) in
-        rw (sees-append es (onlyIf (t′ .ok) (updateEvent g e′ ∷ [])) a)
-        (by-both P (t′ .ok) (updatedOf g e′ (t .list) (t .memory)) _ (updateEvent g e′ ∷ []) []
-        (λ _. updated-heard e′ (t .list) (t .memory) a′
+        rw (sees-append es (onlyIf (t′ .ok) (updateEvent v e′ ∷ [])) a)
+        (by-both P (t′ .ok) (updatedOf g e′ (t .list) (t .memory)) _ (updateEvent v e′ ∷ []) []
+        (λ _. updated-heard e′ (t .list) (t .memory) a′ up
         (record { tied = tied-times F (t′ .stream) (t .list) a′ _ (λ before. omega arith) (moved .tied); queued = moved .queued }))
         (λ _. stopped-heard e″ (t .list) a′ moved))
 
     again-still : (b : Bool) (x : Work) (a : Ghost) (rest : Work → Work) (events : Work → List Event) → eqb (framesOf g (x .engine)) 0 ≡ b
         → ((y : Work) (a′ : Ghost) → Ready y a′ → let z = rest y in Still F (z .engine .stream) (z .engine .queue) (z .list) (sees (events y) a′))
-        → Ready x a → let z = again b g x rest in Still F (z .engine .stream) (z .engine .queue) (z .list) (sees (againRounds b g x events) a)
+        → Ready x a → let z = again b g x rest in Still F (z .engine .stream) (z .engine .queue) (z .list) (sees (againRounds b v g x events) a)
     again-still true x a rest events e more r = r .still
     again-still false x a rest events e more r =
-        rw (sees-append (roundEvents g x) (events (roundOf g x)) a)
-        (more (roundOf g x) (sees (roundEvents g x) a) (round-ready x a (omega (arith, eqb-false (framesOf g (x .engine)) 0 e)) r))
+        rw (sees-append (roundEvents v g x) (events (roundOf g x)) a)
+        (more (roundOf g x) (sees (roundEvents v g x) a) (round-ready x a (omega (arith, eqb-false (framesOf g (x .engine)) 0 e)) r))
 
     rounds-still : (fuel : ℕ) (x : Work) (a : Ghost) → Ready x a
-        → let z = roundsOf fuel g x in Still F (z .engine .stream) (z .engine .queue) (z .list) (sees (roundsEvents fuel g x) a)
+        → let z = roundsOf fuel g x in Still F (z .engine .stream) (z .engine .queue) (z .list) (sees (roundsEvents fuel v g x) a)
     unfolding roundsOf roundsEvents
     rounds-still zero x a r = r .still
-    rounds-still (suc fuel) x a r = again-still (eqb (framesOf g (x .engine)) 0) x a (roundsOf fuel g) (roundsEvents fuel g) refl (rounds-still fuel) r
+    rounds-still (suc fuel) x a r = again-still (eqb (framesOf g (x .engine)) 0) x a (roundsOf fuel g) (roundsEvents fuel v g) refl (rounds-still fuel) r
 
-    served-tied : (rate nanos : ℕ) (x : Work) (a : Ghost) → Still F (x .engine .stream) (x .engine .queue) (x .list) a
-        → let z = servedOf g rate nanos x in Tied F (z .engine .stream) (z .list) (sees (servedEvents g rate nanos x) a)
+    served-tied : (rate nanos : ℕ) (x : Work) (a : Ghost) → Opened g (x .engine .queue) → Still F (x .engine .stream) (x .engine .queue) (x .list) a
+        → let z = servedOf g rate nanos x in Tied F (z .engine .stream) (z .list) (sees (servedEvents v g rate nanos x) a)
     unfolding servedOf servedEvents
-    served-tied rate nanos x a t =
+    served-tied rate nanos x a up t =
         let y = withUpdated (updatedOf g (x .engine) (x .list) (x .memory)) (x .part) in
-        let a′ = see (updateEvent g (x .engine)) a in
-        let h = updated-heard (x .engine) (x .list) (x .memory) a t in
+        let a′ = see (updateEvent v (x .engine)) a in
+        let h = updated-heard (x .engine) (x .list) (x .memory) a up t in
         let s = y .engine .stream in
         let e = accruedOf rate nanos (y .engine) in
-        by-both (λ (z : Work) (es : List Event). Tied F (z .engine .stream) (z .list) (sees es a′)) (y .engine .running) (timedOf g rate nanos y) y (timedEvents g rate nanos y) []
+        by-both (λ (z : Work) (es : List Event). Tied F (z .engine .stream) (z .list) (sees es a′)) (y .engine .running) (timedOf g rate nanos y) y (timedEvents v g rate nanos y) []
         (λ on. rounds-still (dueOf e) (workOf e (y .list) (y .part) (y .memory)) a′
         (record {
           still = record { tied = tied-times F s (y .list) a′ _ (λ _. accrue-bound rate nanos (s .fraction)) (h .still .tied); queued = h .still .queued };
+          opened = λ _. h .opened (inl on);
           near = λ _. h .near (inl on);
         }) .tied)
         (λ _. h .still .tied)
@@ -189,14 +248,54 @@ setup-limit : (regs : List ℕ) (codec : Codec) (i downstream limit : ℕ) → l
 unfolding setupOf
 setup-limit regs codec i downstream limit few = few
 
+-- the book's latency is that of an up stream, and its registers are those of the turn's buffer
+latency-unheard : (v : Given) (c : Bool) → v .capture ≡ c → (q : Queue) → (c ≡ false → q .live ≡ true) → latencyOf q c (v .downstream) ≡ unheard v (q .length)
+unfolding latencyOf
+latency-unheard v true e q up = rw e
+latency-unheard v false e q up = rw (e, up refl)
+
+setup-latency : (regs : List ℕ) (codec : Codec) (i downstream limit : ℕ) → Latency ⊥ (setupOf regs codec i downstream limit) (givenOf i downstream regs)
+unfolding setupOf
+setup-latency regs codec i downstream limit q up = latency-unheard (givenOf i downstream regs) (captures i) refl q up
+
+setup-buffered : (regs : List ℕ) (codec : Codec) (i downstream limit n : ℕ) → setupOf regs codec i downstream limit .cyclic ≡ bufferOf (givenOf i n regs)
+unfolding setupOf
+setup-buffered regs codec i downstream limit n = refl
+
+setup-capture : (regs : List ℕ) (codec : Codec) (i downstream limit : ℕ) → setupOf regs codec i downstream limit .cyclic .capture ≡ captures i
+unfolding setupOf
+setup-capture regs codec i downstream limit = refl
+
+-- an opening that is not refused leaves a playback up, and none changes the downstream count or how many queues there are
+module _ (h : Host) (microphone : Bool) (i : ℕ) where
+  opened-live : captures i ≡ false → i < length (h .queues) → openStreamOf h microphone i .ok ≡ true → queueAt (openStreamOf h microphone i .host) i .live ≡ true
+  unfolding openStreamOf openOf
+  opened-live plays few =
+      let P : Opening → Type 0 = λ o. o .ok ≡ true → queueAt (o .host) i .live ≡ true in
+      by-cond P (captures i && not microphone) (openingOf true h) _ (λ e. absurd (true≢false (sym (left (captures i) (not microphone) e) ∙ plays)))
+      (λ _. by-cond P (queueAt h i .live) (openingOf true h) _ (λ live _. live)
+      (λ _. by-cond P (failsOf h i) (openingOf false h) (openingOf true (withQueue h i (queue true 0))) (λ _ z. absurd (true≢false (sym z)))
+      (λ _ _. rw (getD-set-same (h .queues) i (queue true 0) closed few))))
+
+  abbrev pub Same : Host → Type 0
+  Same o = (length (o .queues) ≡ length (h .queues)) × (o .downstream ≡ h .downstream)
+
+  pub opened-same : Same (openStreamOf h microphone i .host)
+  unfolding openStreamOf openOf
+  opened-same =
+      let P : Opening → Type 0 = λ o. Same (o .host) in
+      by-cond P (captures i && not microphone) (openingOf true h) _ (λ _. (refl, refl))
+      (λ _. by-cond P (queueAt h i .live) (openingOf true h) _ (λ _. (refl, refl))
+      (λ _. by-cond P (failsOf h i) (openingOf false h) (openingOf true (withQueue h i (queue true 0))) (λ _. (refl, refl)) (λ _. (length-set (h .queues) i (queue true 0), refl))))
+
 module _ (F : Type 0) (regs : List ℕ) (codec : Codec) (h : Host) (microphone : Bool) (i nanos limit : ℕ) (s : Stream) (l part m : List ℕ) (a : Ghost)
-    (limited : limit ≤ capacity) (host : hosts.validOf h ≡ true) (t : Tied F s l a) where
+    (limited : limit ≤ capacity) (downstream : ℕ) (told : h .downstream ≡ downstream) (few : i < length (h .queues)) (host : hosts.validOf h ≡ true) (t : Tied F s l a) where
   begins : (h′ : Host) → hosts.validOf h′ ≡ true → Still F s (queueAt h′ i) l a
   begins h′ v = record { tied = t; queued = queue-bound (queueAt h′ i) (valid-queue h′ v i) }
 
   pub formatted-tied : (f : Format)
       → let r = formattedOf regs codec h microphone i nanos limit s l part m f in
-      Tied F (r .turned .stream) (r .list) (sees (formattedEvents regs codec h microphone i nanos limit s l part m f) a)
+      Tied F (r .turned .stream) (r .list) (sees (formattedEvents (givenOf i downstream regs) regs codec h microphone i nanos limit s l part m f) a)
   formatted-tied Unsupported = stopped-still F (engineOf regs h i s) l a (begins h host) .tied
   formatted-tied (Rate rate) =
       let o = openStreamOf h microphone i in
@@ -205,6 +304,9 @@ module _ (F : Type 0) (regs : List ℕ) (codec : Codec) (h : Host) (microphone :
       let g = setupOf regs codec i (o .host .downstream) limit in
       let down : g .downstream ≤ 14336 = setup-down regs codec i (o .host) limit v in
       let x = workOf e l part m in
-      by-both (λ (r : Turn) (es : List Event). Tied F (r .turned .stream) (r .list) (sees es a)) (o .ok) _ _ _ []
-      (λ _. served-tied F g down (setup-limit regs codec i (o .host .downstream) limit limited) rate nanos x a (begins (o .host) v))
-      (λ _. stopped-still F e l a (begins (o .host) v) .tied)
+      by-both (λ (r : Turn) (es : List Event). Tied F (r .turned .stream) (r .list) (sees es a)) (o .ok) _ _ _ (refused ∷ [])
+      (λ ok. served-tied F (givenOf i downstream regs) g
+      (λ q up. setup-latency regs codec i (o .host .downstream) limit q up ∙ ap (λ (n : ℕ). unheard (givenOf i n regs) (q .length)) (opened-same h microphone i .1 ∙ told))
+      (setup-buffered regs codec i (o .host .downstream) limit downstream) down (setup-limit regs codec i (o .host .downstream) limit limited) rate nanos x a
+      (λ plays. opened-live h microphone i (sym (setup-capture regs codec i (o .host .downstream) limit) ∙ plays) few ok) (begins (o .host) v))
+      (λ _. tied-refused F _ l a (stopped-still F e l a (begins (o .host) v) .tied))

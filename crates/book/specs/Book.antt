@@ -15,13 +15,30 @@ abbrev pub book : ℕ → ℕ → List ℕ → List ℕ → List ℕ → Book
 book submitted consumed ends retired pending =
     record { submitted = submitted; consumed = consumed; ends = ends; retired = retired; pending = pending }
 
--- what happens to a stream; a transfer fails because 4,352 are pending, or for another reason
+-- The completions that may be pending at most: at a flagged end with so many the limit stops a transfer.
+abbrev pub limit : ℕ
+limit = 4352
+
+-- Where a transfer stood that did not move all its bytes: the registers of its cyclic buffer, the descriptor that was next and the bytes of it already moved, the bytes of the transfer still to move, and
+-- guest memory as it then was.
+pub record Attempt : Type 0 where
+  pub base : ℕ
+  pub cyclic : ℕ
+  pub last : ℕ
+  pub index : ℕ
+  pub offset : ℕ
+  pub left : ℕ
+  pub memory : List ℕ
+
+-- what happens to a stream
 pub data Event : Type 0 where
   reset : Event
   restored : (submitted consumed : ℕ) → (positions : List ℕ) → Event
   moved : (bytes : ℕ) → (flagged : Bool) → Event
   updated : (latency : ℕ) → Event
-  failed : (full : Bool) → Event
+  -- a transfer that failed, and an opening that the host refused in `advance`
+  failed : Attempt → Event
+  refused : Event
 
 -- positions up to a count, and those above it
 abbrev pub upTo : ℕ → List ℕ → List ℕ
@@ -51,13 +68,14 @@ movedBy n true b =
 abbrev pub consumedTo : ℕ → Book → Book
 consumedTo c b = book (b .submitted) c (b .ends) (b .retired ++ upTo c (b .pending)) (above c (b .pending))
 
--- "consumed becomes the larger of itself and submitted less latency"
+-- "consumed becomes the larger of itself and submitted less latency"; a failed transfer and a refused opening let stand what came before
 unfoldable pub note : Event → Book → Book
 note reset b = made
 note (restored submitted consumed positions) b = restoredWith submitted consumed positions
 note (moved n flagged) b = movedBy n flagged b
 note (updated latency) b = consumedTo (max (b .consumed) (b .submitted - latency)) b
-note (failed full) b = b
+note (failed attempt) b = b
+note refused b = b
 
 unfoldable pub notes : List Event → Book → Book
 notes [] b = b

@@ -1,7 +1,7 @@
 -- Demand 3, whole (document 01, "The book of demand 3").
 use Prim.Native.Nat.{ℕ, _+_, _*_, _≤_, _<_}
 use mathlib.Core.Path.{_≡_}
-use mathlib.Core.Bool.{Bool, true}
+use mathlib.Core.Bool.{Bool}
 use mathlib.Core.List.{List, [], _∷_, _++_}
 use lib.ListN.{length}
 use Rattle.stream.specs.Box.{streams}
@@ -14,7 +14,8 @@ use Rattle.restore.specs.Restores.{numberOf}
 use Rattle.calls.specs.Calls.{Call, after}
 use Rattle.calls.specs.Calls as calls
 use Rattle.book.specs.Book as book
-use Rattle.book.specs.Book.{Book, Event, failed, note}
+use Rattle.book.specs.Book.{Book, Event, limit, note}
+use Rattle.book.specs.Reasons.{isFounded, isUnlimited, Failures}
 use Rattle.book.specs.Events.{restoredEvent}
 use Rattle.book.specs.Lists.{Step, handed, run, allEvents, pendingOf, openingOf, bookOf}
 
@@ -32,10 +33,10 @@ abbrev pub FourApart : List ℕ → Type 0
 FourApart [] = Unit {0}
 FourApart (p ∷ ps) = FourFrom p ps
 
--- no transfer fails because 4,352 are pending
-abbrev pub NeverFull : List Event → Type 0
-NeverFull [] = Unit {0}
-NeverFull (e ∷ es) = ((e ≡ failed true) → ⊥) × NeverFull es
+-- at no time from a book on, through a list of events, are 4,352 pending
+abbrev pub Few : List Event → Book → Type 0
+Few [] b = length (b .pending) < limit
+Few (e ∷ es) b = (length (b .pending) < limit) × Few es (note e b)
 
 -- a device newly made, where the lent spaces are large enough, whatever the host end and guest memory are; or one that an accepted restore put in force
 abbrev pub made : Bool → Host → List ℕ → List ℕ → List ℕ → Machine
@@ -65,6 +66,8 @@ pub record Agrees (i : ℕ) (cs : List Step) (x : Machine) : Type 0 where
   pub rises : Rises (streamAt (run cs x .hda) i .consumed) (pendingOf i (run cs x)) (streamAt (run cs x .hda) i .submitted)
   -- nothing lost, nothing doubled: restored positions and then flagged ends are, in order, those retired and then those pending
   pub exact : bookOf i cs x .ends ≡ bookOf i cs x .retired ++ bookOf i cs x .pending
+  -- a transfer fails for one of document 01's reasons, or because 4,352 are pending at a flagged end
+  pub founded : Failures isFounded (allEvents i cs x) (openingOf i x)
 
 -- no restore is accepted in the list
 abbrev pub NotRestored : Call → Machine → Type 0
@@ -74,9 +77,11 @@ abbrev pub NoRestore : List Step → Machine → Type 0
 NoRestore [] x = Unit {0}
 NoRestore (c ∷ cs) x = NotRestored (c .call) (handed c x) × NoRestore cs (after (c .call) (handed c x))
 
+-- positions are 4 apart; the limit never stops a transfer: 4,352 are never pending, and a transfer fails for one of the other reasons alone
 pub record Spaced (i : ℕ) (cs : List Step) (x : Machine) : Type 0 where
   pub apart : FourApart (pendingOf i (run cs x))
-  pub never : NeverFull (allEvents i cs x)
+  pub never : Few (allEvents i cs x) (openingOf i x)
+  pub otherwise : Failures isUnlimited (allEvents i cs x) (openingOf i x)
 
 pub record Demand3 : Type 0 where
   pub opens : (i : ℕ) → i < streams → Opens i

@@ -25,7 +25,7 @@ use Rattle.device.specs.Machines.{Machine}
 use Rattle.serve.specs.Serve.{Turns, runs, turnAt}
 use Rattle.calls.specs.Calls as calls
 use Rattle.calls.specs.Calls.{after}
-use Rattle.book.specs.Book.{Event}
+use Rattle.book.specs.Book.{Book, Event, reset, restored, moved, updated, failed, refused}
 use Rattle.book.specs.Events.{eventsOf}
 use Rattle.book.specs.Lists.{Step, run, bookOf}
 use Rattle.book.specs.Claim.{made, Starts, NoRestore}
@@ -35,14 +35,14 @@ abbrev pub times : ℕ → List ℕ → ℕ
 times p [] = 0
 times p (q ∷ qs) = cond (eqb p q) 1 0 + times p qs
 
--- No completion is dropped or reported twice, after any list of calls, for one stream; "since" is since its last reset or restore, or the start.
-pub record Once (i : ℕ) (cs : List Step) (x : Machine) : Type 0 where
+-- In a book no completion is dropped or reported twice; "since" is since the stream's last reset or restore, or the start.
+pub record Once (b : Book) : Type 0 where
   -- an end flagged or restored since is either retired or pending, never both: no position stands twice among the ends, and each is counted in one of the two lists
-  pub once : (p : ℕ) → times p (bookOf i cs x .ends) ≤ 1
-  pub parted : (p : ℕ) → times p (bookOf i cs x .ends) ≡ times p (bookOf i cs x .retired) + times p (bookOf i cs x .pending)
+  pub once : (p : ℕ) → times p (b .ends) ≤ 1
+  pub parted : (p : ℕ) → times p (b .ends) ≡ times p (b .retired) + times p (b .pending)
   -- none retires before consumed reaches it, and none is pending once it has
-  pub early : (p : ℕ) → bookOf i cs x .consumed < p → times p (bookOf i cs x .retired) ≡ 0
-  pub late : (p : ℕ) → p ≤ bookOf i cs x .consumed → times p (bookOf i cs x .pending) ≡ 0
+  pub early : (p : ℕ) → b .consumed < p → times p (b .retired) ≡ 0
+  pub late : (p : ℕ) → p ≤ b .consumed → times p (b .pending) ≡ 0
 
 -- What an open stream's turn leaves, whatever it found.
 pub record Told (g : Setup) (e : Engine) : Type 0 where
@@ -67,17 +67,25 @@ pub record Served (i : ℕ) (x : Machine) : Type 0 where
   pub format : formatOf (wordAt 2 (fmt i) (x .hda .regs)) ≡ Unsupported → ⊥
   pub opens : openStreamOf (x .host) (x .hda .microphone) i .ok ≡ true
 
--- the book has an event: of an `advance`, that it served the stream
-abbrev pub Some : List Event → Type 0
-Some [] = ⊥
-Some (e ∷ es) = Unit {0}
+-- the book begins with a position update: of an `advance`, that it served the stream
+abbrev pub Updates : Event → Type 0
+Updates reset = ⊥
+Updates (restored submitted consumed positions) = ⊥
+Updates (moved n flagged) = ⊥
+Updates (updated latency) = Unit {0}
+Updates (failed attempt) = ⊥
+Updates refused = ⊥
+
+abbrev pub Serves : List Event → Type 0
+Serves [] = ⊥
+Serves (e ∷ es) = Updates e
 
 pub record Corollaries : Type 0 where
-  pub once : (i : ℕ) → i < streams → (cs : List Step) (x : Machine) → Starts x → Once i cs x
+  pub once : (i : ℕ) → i < streams → (cs : List Step) (x : Machine) → Starts x → Once (bookOf i cs x)
   pub told : (g : Setup) (rate nanos : ℕ) (x : Work) → Told g (servedOf g rate nanos x .engine)
   -- a turn that serves a stream leaves its position register as `Shows` says, and so does the `advance` that served it, whatever the later streams did
   pub turned : (i : ℕ) → i < streams → (nanos : ℕ) (w : Turns) → Whole (w .machine .hda) → Served i (w .machine) → Shows i (turnAt nanos i w .machine .hda)
-  pub advanced : (i : ℕ) → i < streams → (nanos : ℕ) (x : Machine) → Whole (x .hda) → Some (eventsOf i (calls.advance nanos) x)
+  pub advanced : (i : ℕ) → i < streams → (nanos : ℕ) (x : Machine) → Whole (x .hda) → Serves (eventsOf i (calls.advance nanos) x)
       → Shows i (after (calls.advance nanos) x .hda)
   -- With no restore accepted before or in the list, submitted is at most a full queue and the largest downstream count ahead of consumed: 16,384 bytes, a transfer
   -- that fails included. What the host holds at that time cannot stand there: a pull takes frames out of the queue before the next turn moves consumed.

@@ -15,6 +15,7 @@ use Rattle.positions.specs.Positions.{positionsOf}
 use Rattle.stream.specs.declared.Stream.{Stream}
 use Rattle.stream.specs.declared.Cyclic.{Cyclic}
 use Rattle.stream.specs.Streams.{listSize}
+use Rattle.stream.specs.Box.{captures}
 use Rattle.plan.specs.declared.End.{End}
 use Rattle.plan.specs.declared.End.the-variants.{Inside, Plain, Flagged}
 use Rattle.plan.specs.declared.Plan.{Plan}
@@ -22,11 +23,11 @@ use Rattle.plan.specs.declared.Plan.the-variants.{Failed, Full, Move}
 use Rattle.plan.specs.Plans.{readyOf, planOf}
 use Rattle.pieces.specs.Pieces.{State, Out, stateOf, pieceOf}
 use Rattle.queue.specs.declared.Queue.{Queue}
-use Rattle.queue.specs.Queues.{capacity, latencyOf}
+use Rattle.queue.specs.Queues.{capacity}
 use Rattle.transfer.specs.Transfers.{silence, takenOf, capturedOf}
 use Rattle.host.specs.declared.Host.{Host}
 use Rattle.host.specs.declared.Opening.{Opening}
-use Rattle.registers.specs.Places.{gctl, ctl, fmt, byteAt, has, dmaOf}
+use Rattle.registers.specs.Places.{gctl, ctl, cbl, lvi, fmt, bdpl, byteAt, has, dmaOf}
 use Rattle.turn.specs.declared.Setup.{Setup}
 use Rattle.turn.specs.declared.Engine.{Engine}
 use Rattle.turn.specs.Setups.{setupOf}
@@ -43,20 +44,32 @@ use Rattle.record.specs.Loads as record-loads
 use Rattle.parse.specs.States.{placeOf}
 use Rattle.restore.specs.Restores as restore
 use Rattle.calls.specs.Calls as calls
-use Rattle.book.specs.Book.{Event, reset, restored, moved, updated, failed}
+use Rattle.book.specs.Book.{Attempt, Event, reset, restored, moved, updated, failed, refused}
 
 abbrev pub onlyIf : Bool → List Event → List Event
 onlyIf b es = cond b es []
 
--- ---- a transfer: its pieces, up to one that fails
+-- What the book has for a turn of stream i from its number, from the downstream count that the call was handed, and from the stream's registers (HDA 1.0a 3.3.38 to 3.3.42), not from what the turn makes of these.
+pub record Given : Type 0 where
+  pub capture : Bool
+  pub downstream : ℕ
+  pub base : ℕ
+  pub cyclic : ℕ
+  pub last : ℕ
+
+abbrev pub givenOf : ℕ → ℕ → List ℕ → Given
+givenOf i downstream regs =
+    record { capture = captures i; downstream = downstream; base = wordAt 8 (bdpl i) regs; cyclic = wordAt 4 (cbl i) regs; last = wordAt 2 (lvi i) regs }
+
+-- ---- a transfer: its pieces, and that it failed
 abbrev pub flaggedOf : End → Bool
 flaggedOf Inside = false
 flaggedOf Plain = false
 flaggedOf Flagged = true
 
 abbrev pub planEvents : Plan → List Event
-planEvents Failed = failed false ∷ []
-planEvents Full = failed true ∷ []
+planEvents Failed = []
+planEvents Full = []
 planEvents (Move at n end) = moved n (flaggedOf end) ∷ []
 
 abbrev pub onwardEvents : Bool → Out → (State → List Event) → List Event
@@ -77,67 +90,86 @@ abbrev pub samplesOf : Cyclic → Queue → Bool → ℕ → ℕ → List ℕ �
 samplesOf g q connected left right part count =
     cond (g .capture) (capturedOf connected left right part (takenOf connected q part count) count) (silence count)
 
-unfoldable pub transferEvents : Setup → Work → ℕ → List Event
-transferEvents g x count =
+-- where a transfer stands that has `left` bytes to move
+abbrev pub attemptOf : Given → Stream → List ℕ → ℕ → Attempt
+attemptOf v s m left =
+    record { base = v .base; cyclic = v .cyclic; last = v .last; index = s .descriptor; offset = s .offset; left = left; memory = m }
+
+-- It failed where the device says so, and where submitted has not grown by all its bytes, by whatever name the device calls that.
+abbrev pub leftOf : Stream → Stream → ℕ → ℕ
+leftOf before after count = count - (after .submitted - before .submitted)
+
+abbrev pub failureEvents : Given → Bool → Stream → List ℕ → ℕ → List Event
+failureEvents v ok s m left = onlyIf (not ok || ltb 0 left) (failed (attemptOf v s m left) ∷ [])
+
+unfoldable pub transferEvents : Given → Setup → Work → ℕ → List Event
+transferEvents v g x n =
+    let c = g .cyclic in
     let e = x .engine in
-    let pcm = samplesOf (g .cyclic) (e .queue) (g .connected) (g .left) (g .right) (x .part) count in
-    cond (readyOf (g .cyclic)) (piecesEvents count (g .cyclic) count (stateOf (e .stream) (x .list) (x .memory) pcm 0)) (failed false ∷ [])
+    let t = transferAt g x n in
+    let pcm = samplesOf c (e .queue) (g .connected) (g .left) (g .right) (x .part) (4 * n) in
+    onlyIf (readyOf c) (piecesEvents (4 * n) c (4 * n) (stateOf (e .stream) (x .list) (x .memory) pcm 0))
+    ++ failureEvents v (t .transferred .ok) (t .transferred .stream) (t .memory) (leftOf (e .stream) (t .transferred .stream) (4 * n))
 
 -- ---- a turn: the position update at its start, then transfers, each with an update where it succeeded
-abbrev pub updateEvent : Setup → Engine → Event
-updateEvent g e = updated (latencyOf (e .queue) (g .cyclic .capture) (g .downstream))
+-- document 01's latency: none for a capture; for a playback the bytes queued and those downstream
+abbrev pub unheard : Given → ℕ → ℕ
+unheard v queued = cond (v .capture) 0 (queued + v .downstream)
 
-unfoldable pub roundEvents : Setup → Work → List Event
-roundEvents g x =
+abbrev pub updateEvent : Given → Engine → Event
+updateEvent v e = updated (unheard v (e .queue .length))
+
+unfoldable pub roundEvents : Given → Setup → Work → List Event
+roundEvents v g x =
     let n = framesOf g (x .engine) in
     let t = transferAt g x n .transferred in
-    transferEvents g x (4 * n) ++ onlyIf (t .ok) (updateEvent g (transferredOf (x .engine) (t .stream) (t .queue) n) ∷ [])
+    transferEvents v g x n ++ onlyIf (t .ok) (updateEvent v (transferredOf (x .engine) (t .stream) (t .queue) n) ∷ [])
 
-abbrev pub againRounds : Bool → Setup → Work → (Work → List Event) → List Event
-againRounds true g x rest = []
-againRounds false g x rest = roundEvents g x ++ rest (roundOf g x)
+abbrev pub againRounds : Bool → Given → Setup → Work → (Work → List Event) → List Event
+againRounds true v g x rest = []
+againRounds false v g x rest = roundEvents v g x ++ rest (roundOf g x)
 
-unfoldable pub roundsEvents : ℕ → Setup → Work → List Event
-roundsEvents zero g x = []
-roundsEvents (suc fuel) g x = againRounds (eqb (framesOf g (x .engine)) 0) g x (roundsEvents fuel g)
+unfoldable pub roundsEvents : ℕ → Given → Setup → Work → List Event
+roundsEvents zero v g x = []
+roundsEvents (suc fuel) v g x = againRounds (eqb (framesOf g (x .engine)) 0) v g x (roundsEvents fuel v g)
 
-abbrev pub timedEvents : Setup → ℕ → ℕ → Work → List Event
-timedEvents g rate nanos x =
+abbrev pub timedEvents : Given → Setup → ℕ → ℕ → Work → List Event
+timedEvents v g rate nanos x =
     let e = accruedOf rate nanos (x .engine) in
-    roundsEvents (dueOf e) g (workOf e (x .list) (x .part) (x .memory))
+    roundsEvents (dueOf e) v g (workOf e (x .list) (x .part) (x .memory))
 
-unfoldable pub servedEvents : Setup → ℕ → ℕ → Work → List Event
-servedEvents g rate nanos x =
+unfoldable pub servedEvents : Given → Setup → ℕ → ℕ → Work → List Event
+servedEvents v g rate nanos x =
     let y = withUpdated (updatedOf g (x .engine) (x .list) (x .memory)) (x .part) in
-    updateEvent g (x .engine) ∷ onlyIf (y .engine .running) (timedEvents g rate nanos y)
+    updateEvent v (x .engine) ∷ onlyIf (y .engine .running) (timedEvents v g rate nanos y)
 
--- an unsupported format and a refused opening serve nothing
-abbrev pub openedEvents : List ℕ → Codec → ℕ → ℕ → ℕ → ℕ → Stream → List ℕ → List ℕ → List ℕ → Opening → List Event
-openedEvents regs codec i rate nanos limit s l part m o =
-    onlyIf (o .ok) (servedEvents (setupOf regs codec i (o .host .downstream) limit) rate nanos (workOf (engineOf regs (o .host) i s) l part m))
+-- an unsupported format serves nothing, nor does a refused opening
+abbrev pub openedEvents : Given → List ℕ → Codec → ℕ → ℕ → ℕ → ℕ → Stream → List ℕ → List ℕ → List ℕ → Opening → List Event
+openedEvents v regs codec i rate nanos limit s l part m o =
+    cond (o .ok) (servedEvents v (setupOf regs codec i (o .host .downstream) limit) rate nanos (workOf (engineOf regs (o .host) i s) l part m)) (refused ∷ [])
 
-abbrev pub formattedEvents : List ℕ → Codec → Host → Bool → ℕ → ℕ → ℕ → Stream → List ℕ → List ℕ → List ℕ → Format → List Event
-formattedEvents regs codec h microphone i nanos limit s l part m Unsupported = []
-formattedEvents regs codec h microphone i nanos limit s l part m (Rate rate) =
-    openedEvents regs codec i rate nanos limit s l part m (openStreamOf h microphone i)
+abbrev pub formattedEvents : Given → List ℕ → Codec → Host → Bool → ℕ → ℕ → ℕ → Stream → List ℕ → List ℕ → List ℕ → Format → List Event
+formattedEvents v regs codec h microphone i nanos limit s l part m Unsupported = []
+formattedEvents v regs codec h microphone i nanos limit s l part m (Rate rate) =
+    openedEvents v regs codec i rate nanos limit s l part m (openStreamOf h microphone i)
 
-unfoldable pub turnEvents : ℕ → ℕ → Machine → List Event
-turnEvents nanos i x =
+unfoldable pub turnEvents : ℕ → ℕ → ℕ → Machine → List Event
+turnEvents downstream nanos i x =
     let d = x .hda in
     onlyIf (runs (d .regs) i)
-    (formattedEvents (d .regs) (d .link .codec) (x .host) (d .microphone) i nanos capacity (streamAt d i) (partOf listSize i (x .lists)) (partOf capacity i (x .queues)) (x .memory)
+    (formattedEvents (givenOf i downstream (d .regs)) (d .regs) (d .link .codec) (x .host) (d .microphone) i nanos capacity (streamAt d i) (partOf listSize i (x .lists)) (partOf capacity i (x .queues)) (x .memory)
     (formatOf (wordAt 2 (fmt i) (d .regs))))
 
 -- ---- advance: stream i's turn finds what the turns before it left, and is not taken where one of them was refused
-unfoldable pub serveEvents : ℕ → ℕ → Machine → List Event
-serveEvents nanos i x =
+unfoldable pub serveEvents : ℕ → ℕ → ℕ → Machine → List Event
+serveEvents downstream nanos i x =
     let w = eachOf goesOn (turnAt nanos) i 0 (turnsOf false x) in
-    onlyIf (goesOn w) (turnEvents nanos i (w .machine))
+    onlyIf (goesOn w) (turnEvents downstream nanos i (w .machine))
 
 unfoldable pub advanceEvents : ℕ → ℕ → Machine → List Event
 advanceEvents nanos i x =
     let y = withCommanded x (x .host) (commandedOf (tickedOf nanos (x .hda)) (x .memory)) in
-    onlyIf (not (x .hda .paused || not (has 1 (byteAt (x .hda .regs) gctl)))) (onlyIf (dmaOf (y .hda .config) (y .hda .regs)) (serveEvents nanos i y))
+    onlyIf (not (x .hda .paused || not (has 1 (byteAt (x .hda .regs) gctl)))) (onlyIf (dmaOf (y .hda .config) (y .hda .regs)) (serveEvents (x .host .downstream) nanos i y))
 
 -- ---- a register write: the controller's reset, and the stream's own, which finds what the streams before it left
 abbrev pub controllerEvents : List ℕ → Ports → List Event

@@ -1,4 +1,5 @@
 pub mod Book
+pub mod Reasons
 pub mod Events
 pub mod Lists
 pub mod Claim

@@ -1,29 +1,31 @@
--- Lists of calls. Between two calls nobody else writes the device, its lists and its queues; guest memory and the rest of the host end record, the two switches and the
--- downstream count, may be any at each call (document 01, "The book of demand 3").
+-- Lists of calls. Between two calls nobody else writes the device and its lists. Guest memory, the host end record and the queues' bytes may be any at each call: so also
+-- where nobody else writes the queues, as document 01 has it ("The book of demand 3").
 use Prim.Native.Nat.{ℕ}
-use mathlib.Core.Bool.{Bool}
+use mathlib.Core.Path.{_≡_}
 use mathlib.Core.List.{List, [], _∷_, _++_}
+use lib.ListN.{length}
 use Rattle.positions.specs.Positions.{positionsOf}
 use Rattle.word.specs.Parts.{partOf}
 use Rattle.stream.specs.Streams.{listSize}
-use Rattle.host.specs.Hosts.{host}
+use Rattle.stream.specs.Box.{streams}
+use Rattle.host.specs.declared.Host.{Host}
 use Rattle.device.specs.Devices.{streamAt}
 use Rattle.device.specs.Machines.{Machine, machine}
 use Rattle.calls.specs.Calls.{Call, after}
 use Rattle.book.specs.Book.{Book, Event, restoredWith, notes}
 use Rattle.book.specs.Events.{eventsOf}
 
--- what a call is handed anew, and the call
+-- what a call is handed anew, and the call; a host end has a queue for each stream, by its type
 pub record Step : Type 0 where
-  pub playback : Bool
-  pub capture : Bool
-  pub downstream : ℕ
+  pub host : Host
+  pub sized : length (host .queues) ≡ streams
+  pub queues : List ℕ
   pub memory : List ℕ
   pub call : Call
 
 -- the machine that the call finds
 abbrev pub handed : Step → Machine → Machine
-handed c x = machine (x .hda) (host (c .playback) (c .capture) (c .downstream) (x .host .queues)) (x .lists) (x .queues) (c .memory)
+handed c x = machine (x .hda) (c .host) (x .lists) (c .queues) (c .memory)
 
 unfoldable pub run : List Step → Machine → Machine
 run [] x = x

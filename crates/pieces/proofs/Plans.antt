@@ -43,16 +43,9 @@ pub record MoveOk (g : Cyclic) (s : Stream) (size left : ℕ) (d : Descriptor) (
   pub submitted : s .submitted + n ≤ maxCount
   pub room : EndOk s end
 
--- a piece that would end at a flagged end, with no place left
-pub record FullOk (s : Stream) (left : ℕ) (d : Descriptor) (n : ℕ) : Type 0 where
-  pub few : n ≤ left
-  pub frame : 4 ≤ d .length
-  pub ends : s .offset + n ≡ d .length
-  pub full : places ≤ s .pending
-
 abbrev pub PlanOk : Cyclic → Stream → ℕ → ℕ → Descriptor → Plan → Type 0
 PlanOk g s size left d Failed = Unit {0}
-PlanOk g s size left d Full = (n : ℕ) × FullOk s left d n
+PlanOk g s size left d Full = Unit {0}
 PlanOk g s size left d (Move at n end) = MoveOk g s size left d at n end
 
 -- the tests of the definition, from the last to the first: each gives what the ones before it leave open
@@ -61,22 +54,21 @@ module _ (g : Cyclic) (s : Stream) (size left : ℕ) (d : Descriptor) where
   abbrev EndsOk : ℕ → Type 0
   EndsOk n = (end : End) → Ends s d n end → EndOk s end → MoveOk g s size left d (d .address + s .offset) n end
 
-  end-ok : (n : ℕ) → EndsOk n → (s .offset + n ≡ d .length → places ≤ s .pending → FullOk s left d n) → PlanOk g s size left d (endOf s d n)
+  end-ok : (n : ℕ) → EndsOk n → PlanOk g s size left d (endOf s d n)
   unfolding endOf
-  end-ok n move full =
+  end-ok n move =
       by-cond (PlanOk g s size left d) (eqb (s .offset + n) (d .length)) _ _
       (λ e. by-cond (PlanOk g s size left d) (eqb (d .flags % 2) 1) _ _
       (λ _. by-cond (PlanOk g s size left d) (ltb (s .pending) places) _ _
-      (λ room. move Flagged (eqb-true _ _ e) (ltb-true _ _ room)) (λ none. (n, full (eqb-true _ _ e) (ltb-false _ _ none))))
+      (λ room. move Flagged (eqb-true _ _ e) (ltb-true _ _ room)) (λ _. tt))
       (λ _. move Plain (eqb-true _ _ e) tt))
       (λ _. move Inside tt tt)
 
-  placed-ok : (n : ℕ) → (d .address + (s .offset + n) ≤ size → s .submitted + n ≤ maxCount → EndsOk n)
-      → (s .offset + n ≡ d .length → places ≤ s .pending → FullOk s left d n) → PlanOk g s size left d (placedOf s size d n)
+  placed-ok : (n : ℕ) → (d .address + (s .offset + n) ≤ size → s .submitted + n ≤ maxCount → EndsOk n) → PlanOk g s size left d (placedOf s size d n)
   unfolding placedOf
-  placed-ok n move full =
+  placed-ok n move =
       by-cond (PlanOk g s size left d) (leb (d .address + (s .offset + n)) size) _ _
-      (λ e₁. by-cond (PlanOk g s size left d) (leb (s .submitted + n) maxCount) _ _ (λ e₂. end-ok n (move (leb-true _ _ e₁) (leb-true _ _ e₂)) full) (λ _. tt))
+      (λ e₁. by-cond (PlanOk g s size left d) (leb (s .submitted + n) maxCount) _ _ (λ e₂. end-ok n (move (leb-true _ _ e₁) (leb-true _ _ e₂))) (λ _. tt))
       (λ _. tt)
 
   entry-ok : s .descriptor ≤ g .lvi → descriptorAt g s + 16 ≤ size → PlanOk g s size left d (entryOf g s size left d)
@@ -100,8 +92,7 @@ module _ (g : Cyclic) (s : Stream) (size left : ℕ) (d : Descriptor) where
         ends = ends;
         submitted = submitted;
         room = room;
-      })
-      (λ ends none. record { few = omega arith; frame = frame; ends = ends; full = none }))
+      }))
       (λ _. tt))
       (λ _. tt))
 

@@ -1,22 +1,19 @@
 // The device's C functions (include/hda.h, docs/LAYOUT.md). A slice is a pointer and a length; any bytes of any lengths may come in any order. Each function is the call of
-// crates port_device, port_reads and port_host by its C name, with the same contract; a flag is any number, and all but 0 is true.
+// crates port_device, port_reads and port_host by its C name. Its contract is the outcome that crate lent_calls gives for that call, the very definition that demand 3 on bytes steps by; bytes
+// that a function is not handed are `none` there. A flag is any number, and all but 0 is true.
 ghost use mathlib.Core.Path.{_≡_};
 ghost use mathlib.Core.Bool.{not};
-ghost use lib.ListN.{length};
 ghost use lib.Dec.{eqb};
-ghost use Rattle.driver.specs.Calls.{playbackFailsOf, captureFailsOf, downstreamOf};
-ghost use Rattle.advance.specs.Advance.{advanceOf};
-ghost use Rattle.write.specs.Writes.{writeOf};
-ghost use Rattle.hda.specs.Calls.{barWriteOf, configWriteOf, pinOf};
-ghost use Rattle.port_device.specs.Calls.{lent, returned, made, behind, none, restoredBy, newOf, pausedOf};
-ghost use Rattle.port_reads.specs.Reads.{shown, readOf, barReadOf, configReadOf, saveOf};
-ghost use Rattle.port_host.specs.Calls.{kept, fedOut, pulledOut, feedOf, pullOf, setting};
-ghost use Rattle.port_host.specs.Calls as hosts;
+ghost use Rattle.calls.specs.Calls.{advance, read, write, barRead, barWrite, configRead, configWrite, pinChange, pause, feed, pull, playbackFails, captureFails, downstream, save, restore};
+ghost use Rattle.port_device.specs.Calls.{lent, returned, made, none};
+ghost use Rattle.port_reads.specs.Reads.{shown};
+ghost use Rattle.port_host.specs.Calls.{kept, fedOut, pulledOut};
+ghost use Rattle.lent_calls.specs.Calls.{new, hostNew, on, callOf};
 
 // A new device into its record.
 #[no_mangle]
 pub extern "C" fn hda_new(device: &mut [u8], lists: &[u8], queues: &[u8], microphone: u32) -> u64
-    ensures { λ r. ⌜ made r (now (device .exit)) ≡ newOf (not (eqb microphone 0)) (now (device .entry)) (length (now (lists .entry))) (length (now (queues .entry))) ⌝ }
+    ensures { λ r. ⌜ made r (now (device .exit)) ≡ callOf (new (not (eqb microphone 0))) (lent (now (device .entry)) none (now (lists .entry)) (now (queues .entry)) none) ⌝ }
 {
     port_device::new(device, lists, queues, microphone != 0)
 }
@@ -24,7 +21,7 @@ pub extern "C" fn hda_new(device: &mut [u8], lists: &[u8], queues: &[u8], microp
 // A new host end into its record.
 #[no_mangle]
 pub extern "C" fn hda_host_new(host: &mut [u8], queues: &[u8]) -> u64
-    ensures { λ r. ⌜ kept r (now (host .exit)) ≡ hosts.newOf (now (host .entry)) (length (now (queues .entry))) ⌝ }
+    ensures { λ r. ⌜ kept r (now (host .exit)) ≡ callOf hostNew (lent none (now (host .entry)) none (now (queues .entry)) none) ⌝ }
 {
     port_host::new(host, queues)
 }
@@ -39,7 +36,7 @@ pub extern "C" fn hda_advance(
     memory: &mut [u8],
     nanos: u64,
 ) -> u64
-    ensures { λ r. ⌜ returned r (lent (now (device .exit)) (now (host .exit)) (now (lists .exit)) (now (queues .exit)) (now (memory .exit))) ≡ behind (advanceOf nanos) (lent (now (device .entry)) (now (host .entry)) (now (lists .entry)) (now (queues .entry)) (now (memory .entry))) ⌝ }
+    ensures { λ r. ⌜ returned r (lent (now (device .exit)) (now (host .exit)) (now (lists .exit)) (now (queues .exit)) (now (memory .exit))) ≡ callOf (on (advance nanos)) (lent (now (device .entry)) (now (host .entry)) (now (lists .entry)) (now (queues .entry)) (now (memory .entry))) ⌝ }
 {
     port_device::advance(device, host, lists, queues, memory, nanos)
 }
@@ -54,7 +51,7 @@ pub extern "C" fn hda_read(
     offset: u64,
     into: &mut [u8],
 ) -> u64
-    ensures { λ r. ⌜ shown r (now (into .exit)) ≡ readOf offset (now (device .entry)) (now (host .entry)) (now (lists .entry)) (length (now (queues .entry))) (now (into .entry)) ⌝ }
+    ensures { λ r. ⌜ shown r (now (into .exit)) ≡ callOf (on (read offset (now (into .entry)))) (lent (now (device .entry)) (now (host .entry)) (now (lists .entry)) (now (queues .entry)) none) ⌝ }
 {
     port_reads::read(device, host, lists, queues, offset, into)
 }
@@ -70,7 +67,7 @@ pub extern "C" fn hda_write(
     offset: u64,
     bytes: &[u8],
 ) -> u64
-    ensures { λ r. ⌜ returned r (lent (now (device .exit)) (now (host .exit)) (now (lists .entry)) (now (queues .entry)) (now (memory .exit))) ≡ behind (writeOf offset (now (bytes .entry))) (lent (now (device .entry)) (now (host .entry)) (now (lists .entry)) (now (queues .entry)) (now (memory .entry))) ⌝ }
+    ensures { λ r. ⌜ returned r (lent (now (device .exit)) (now (host .exit)) (now (lists .entry)) (now (queues .entry)) (now (memory .exit))) ≡ callOf (on (write offset (now (bytes .entry)))) (lent (now (device .entry)) (now (host .entry)) (now (lists .entry)) (now (queues .entry)) (now (memory .entry))) ⌝ }
 {
     port_device::write(device, host, lists, queues, memory, offset, bytes)
 }
@@ -86,7 +83,7 @@ pub extern "C" fn hda_bar_read(
     offset: u64,
     into: &mut [u8],
 ) -> u64
-    ensures { λ r. ⌜ shown r (now (into .exit)) ≡ barReadOf bar offset (now (device .entry)) (now (host .entry)) (now (lists .entry)) (length (now (queues .entry))) (now (into .entry)) ⌝ }
+    ensures { λ r. ⌜ shown r (now (into .exit)) ≡ callOf (on (barRead bar offset (now (into .entry)))) (lent (now (device .entry)) (now (host .entry)) (now (lists .entry)) (now (queues .entry)) none) ⌝ }
 {
     port_reads::bar_read(device, host, lists, queues, bar, offset, into)
 }
@@ -102,7 +99,7 @@ pub extern "C" fn hda_bar_write(
     offset: u64,
     bytes: &[u8],
 ) -> u64
-    ensures { λ r. ⌜ returned r (lent (now (device .exit)) (now (host .exit)) (now (lists .entry)) (now (queues .entry)) (now (memory .exit))) ≡ behind (barWriteOf bar offset (now (bytes .entry))) (lent (now (device .entry)) (now (host .entry)) (now (lists .entry)) (now (queues .entry)) (now (memory .entry))) ⌝ }
+    ensures { λ r. ⌜ returned r (lent (now (device .exit)) (now (host .exit)) (now (lists .entry)) (now (queues .entry)) (now (memory .exit))) ≡ callOf (on (barWrite bar offset (now (bytes .entry)))) (lent (now (device .entry)) (now (host .entry)) (now (lists .entry)) (now (queues .entry)) (now (memory .entry))) ⌝ }
 {
     port_device::bar_write(device, host, lists, queues, memory, bar, offset, bytes)
 }
@@ -116,7 +113,7 @@ pub extern "C" fn hda_config_read(
     queues: &[u8],
     register: u64,
 ) -> u64
-    ensures { λ r. ⌜ r ≡ configReadOf register (now (device .entry)) (now (host .entry)) (now (lists .entry)) (length (now (queues .entry))) ⌝ }
+    ensures { λ r. ⌜ r ≡ callOf (on (configRead register)) (lent (now (device .entry)) (now (host .entry)) (now (lists .entry)) (now (queues .entry)) none) ⌝ }
 {
     port_reads::config_read(device, host, lists, queues, register)
 }
@@ -133,7 +130,7 @@ pub extern "C" fn hda_config_write(
     offset: u64,
     bytes: &[u8],
 ) -> u64
-    ensures { λ r. ⌜ returned r (lent (now (device .exit)) (now (host .entry)) (now (lists .entry)) (now (queues .entry)) (now (memory .exit))) ≡ behind (configWriteOf register offset (now (bytes .entry))) (lent (now (device .entry)) (now (host .entry)) (now (lists .entry)) (now (queues .entry)) (now (memory .entry))) ⌝ }
+    ensures { λ r. ⌜ returned r (lent (now (device .exit)) (now (host .entry)) (now (lists .entry)) (now (queues .entry)) (now (memory .exit))) ≡ callOf (on (configWrite register offset (now (bytes .entry)))) (lent (now (device .entry)) (now (host .entry)) (now (lists .entry)) (now (queues .entry)) (now (memory .entry))) ⌝ }
 {
     port_device::config_write(device, host, lists, queues, memory, register, offset, bytes)
 }
@@ -148,7 +145,7 @@ pub extern "C" fn hda_pin_presence_changed(
     memory: &mut [u8],
     node: u32,
 ) -> u64
-    ensures { λ r. ⌜ returned r (lent (now (device .exit)) (now (host .entry)) (now (lists .entry)) (now (queues .entry)) (now (memory .exit))) ≡ behind (pinOf node) (lent (now (device .entry)) (now (host .entry)) (now (lists .entry)) (now (queues .entry)) (now (memory .entry))) ⌝ }
+    ensures { λ r. ⌜ returned r (lent (now (device .exit)) (now (host .entry)) (now (lists .entry)) (now (queues .entry)) (now (memory .exit))) ≡ callOf (on (pinChange node)) (lent (now (device .entry)) (now (host .entry)) (now (lists .entry)) (now (queues .entry)) (now (memory .entry))) ⌝ }
 {
     port_device::pin_presence_changed(device, host, lists, queues, memory, node)
 }
@@ -162,7 +159,7 @@ pub extern "C" fn hda_set_paused(
     queues: &[u8],
     paused: u32,
 ) -> u64
-    ensures { λ r. ⌜ made r (now (device .exit)) ≡ pausedOf (not (eqb paused 0)) (now (device .entry)) (now (host .entry)) (now (lists .entry)) (length (now (queues .entry))) ⌝ }
+    ensures { λ r. ⌜ made r (now (device .exit)) ≡ callOf (on (pause (not (eqb paused 0)))) (lent (now (device .entry)) (now (host .entry)) (now (lists .entry)) (now (queues .entry)) none) ⌝ }
 {
     port_device::set_paused(device, host, lists, queues, paused != 0)
 }
@@ -176,7 +173,7 @@ pub extern "C" fn hda_save(
     queues: &[u8],
     into: &mut [u8],
 ) -> u64
-    ensures { λ r. ⌜ shown r (now (into .exit)) ≡ saveOf (now (device .entry)) (now (host .entry)) (now (lists .entry)) (length (now (queues .entry))) (now (into .entry)) ⌝ }
+    ensures { λ r. ⌜ shown r (now (into .exit)) ≡ callOf (on (save (now (into .entry)))) (lent (now (device .entry)) (now (host .entry)) (now (lists .entry)) (now (queues .entry)) none) ⌝ }
 {
     port_reads::save(device, host, lists, queues, into)
 }
@@ -190,7 +187,7 @@ pub extern "C" fn hda_restore(
     queues: &[u8],
     state: &[u8],
 ) -> u64
-    ensures { λ r. ⌜ returned r (lent (now (device .exit)) (now (host .exit)) (now (lists .exit)) (now (queues .entry)) none) ≡ behind (restoredBy (now (state .entry))) (lent (now (device .entry)) (now (host .entry)) (now (lists .entry)) (now (queues .entry)) none) ⌝ }
+    ensures { λ r. ⌜ returned r (lent (now (device .exit)) (now (host .exit)) (now (lists .exit)) (now (queues .entry)) none) ≡ callOf (on (restore (now (state .entry)))) (lent (now (device .entry)) (now (host .entry)) (now (lists .entry)) (now (queues .entry)) none) ⌝ }
 {
     port_device::restore(device, host, lists, queues, state)
 }
@@ -198,7 +195,7 @@ pub extern "C" fn hda_restore(
 // Frames into the queue of the capture stream; the value returned is their count.
 #[no_mangle]
 pub extern "C" fn hda_feed(host: &mut [u8], queues: &mut [u8], frames: &[u8]) -> u64
-    ensures { λ r. ⌜ fedOut r (now (host .exit)) (now (queues .exit)) ≡ feedOf (now (host .entry)) (now (queues .entry)) (now (frames .entry)) ⌝ }
+    ensures { λ r. ⌜ fedOut r (now (host .exit)) (now (queues .exit)) ≡ callOf (on (feed (now (frames .entry)))) (lent none (now (host .entry)) none (now (queues .entry)) none) ⌝ }
 {
     port_host::feed(host, queues, frames)
 }
@@ -206,7 +203,7 @@ pub extern "C" fn hda_feed(host: &mut [u8], queues: &mut [u8], frames: &[u8]) ->
 // Frames out of the queue of the playback stream; the value returned is their count.
 #[no_mangle]
 pub extern "C" fn hda_pull(host: &mut [u8], queues: &mut [u8], into: &mut [u8]) -> u64
-    ensures { λ r. ⌜ pulledOut r (now (host .exit)) (now (queues .exit)) (now (into .exit)) ≡ pullOf (now (host .entry)) (now (queues .entry)) (now (into .entry)) ⌝ }
+    ensures { λ r. ⌜ pulledOut r (now (host .exit)) (now (queues .exit)) (now (into .exit)) ≡ callOf (on (pull (now (into .entry)))) (lent none (now (host .entry)) none (now (queues .entry)) none) ⌝ }
 {
     port_host::pull(host, queues, into)
 }
@@ -214,7 +211,7 @@ pub extern "C" fn hda_pull(host: &mut [u8], queues: &mut [u8], into: &mut [u8]) 
 // Whether openings for playback fail.
 #[no_mangle]
 pub extern "C" fn hda_set_playback_fails(host: &mut [u8], queues: &[u8], fails: u32) -> u64
-    ensures { λ r. ⌜ kept r (now (host .exit)) ≡ setting (λ h n. playbackFailsOf h n (not (eqb fails 0))) (now (host .entry)) (length (now (queues .entry))) ⌝ }
+    ensures { λ r. ⌜ kept r (now (host .exit)) ≡ callOf (on (playbackFails (not (eqb fails 0)))) (lent none (now (host .entry)) none (now (queues .entry)) none) ⌝ }
 {
     port_host::set_playback_fails(host, queues, fails != 0)
 }
@@ -222,7 +219,7 @@ pub extern "C" fn hda_set_playback_fails(host: &mut [u8], queues: &[u8], fails: 
 // Whether openings for capture fail.
 #[no_mangle]
 pub extern "C" fn hda_set_capture_fails(host: &mut [u8], queues: &[u8], fails: u32) -> u64
-    ensures { λ r. ⌜ kept r (now (host .exit)) ≡ setting (λ h n. captureFailsOf h n (not (eqb fails 0))) (now (host .entry)) (length (now (queues .entry))) ⌝ }
+    ensures { λ r. ⌜ kept r (now (host .exit)) ≡ callOf (on (captureFails (not (eqb fails 0)))) (lent none (now (host .entry)) none (now (queues .entry)) none) ⌝ }
 {
     port_host::set_capture_fails(host, queues, fails != 0)
 }
@@ -230,7 +227,7 @@ pub extern "C" fn hda_set_capture_fails(host: &mut [u8], queues: &[u8], fails: u
 // Bytes that the host holds beyond the queue.
 #[no_mangle]
 pub extern "C" fn hda_set_downstream(host: &mut [u8], queues: &[u8], bytes: u32) -> u64
-    ensures { λ r. ⌜ kept r (now (host .exit)) ≡ setting (λ h n. downstreamOf h n bytes) (now (host .entry)) (length (now (queues .entry))) ⌝ }
+    ensures { λ r. ⌜ kept r (now (host .exit)) ≡ callOf (on (downstream bytes)) (lent none (now (host .entry)) none (now (queues .entry)) none) ⌝ }
 {
     port_host::set_downstream(host, queues, bytes)
 }

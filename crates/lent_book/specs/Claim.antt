@@ -1,0 +1,83 @@
+-- Demand 3 on bytes: after any list of C calls, the counts and pending positions that stand in the bytes are the book's.
+use Prim.Native.Nat.{ℕ, _*_, _%_, _≤_, _<_}
+use mathlib.Core.Path.{_≡_}
+use mathlib.Core.Bool.{Bool, true}
+use mathlib.Core.List.{List, [], _∷_, _++_}
+use lib.ListN.{length}
+use Rattle.word.specs.Value.{Bytes}
+use Rattle.stream.specs.Box.{streams}
+use Rattle.stream.specs.Streams.{listSize}
+use Rattle.queue.specs.Queues.{capacity}
+use Rattle.host.specs.Hosts as hosts
+use Rattle.device.specs.Machines.{checkMachine}
+use Rattle.record.specs.Layout.{deviceSize}
+use Rattle.record.specs.Loads.{isDevice}
+use Rattle.host_record.specs.Hosts.{hostAt}
+use Rattle.calls.specs.Calls as calls
+use Rattle.port_device.specs.Calls.{Lent, lent, machineAt}
+use Rattle.lent_calls.specs.Calls.{new, on, callOf, after}
+use Rattle.book.specs.Book as book
+use Rattle.book.specs.Book.{Book, note}
+use Rattle.book.specs.Reasons.{isFounded, isUnlimited, Failures}
+use Rattle.book.specs.Events.{restoredEvent}
+use Rattle.book.specs.Claim.{Rises, FourApart, Few}
+use Rattle.lent_book.specs.Lists.{Step, handed, run, streamIn, pendingIn, openingIn, newReply, allEvents, bookOf}
+
+-- document 01's number in what hda_restore returns is 0
+abbrev pub Accepted : List ℕ → Lent → Type 0
+Accepted s x = callOf (on (calls.restore s)) x .reply % 256 ≡ 0
+
+-- what types say of all that is lent
+pub record Lends (x : Lent) : Type 0 where
+  pub device : Bytes (x .device)
+  pub host : Bytes (x .host)
+  pub queues : Bytes (x .queues)
+  pub memory : Bytes (x .memory)
+
+-- after hda_new that returned 0, or hda_restore whose number is 0, on any bytes
+pub data Starts : Lent → Type 0 where
+  made : (microphone : Bool) (x : Lent) → newReply microphone x ≡ 0 → Starts (after (new microphone) x)
+  restored : (s : List ℕ) (x : Lent) → Bytes s → Lends x → Accepted s x → Starts (after (on (calls.restore s)) x)
+
+-- the book's start, for one stream
+pub record Opens (i : ℕ) : Type 0 where
+  -- hda_new returns 0 on bytes as long as a record, with lists and queues that are long enough; the book is then empty
+  pub begins : (microphone : Bool) (x : Lent) → length (x .device) ≡ deviceSize → listSize * streams ≤ length (x .lists) → capacity * streams ≤ length (x .queues) → newReply microphone x ≡ 0
+  pub fresh : (microphone : Bool) (x : Lent) → newReply microphone x ≡ 0 → openingIn i (after (new microphone) x) ≡ book.made
+  -- an accepted hda_restore: the state's counts and positions, as it makes them of any book
+  pub resumed : (s : List ℕ) (x : Lent) → Bytes s → Lends x → Accepted s x → (b : Book) → openingIn i (after (on (calls.restore s)) x) ≡ note (restoredEvent s i) b
+
+-- after the list, for one stream
+pub record Agrees (i : ℕ) (cs : List Step) (x : Lent) : Type 0 where
+  -- the device's bytes are a record, and the next call passes its check wherever the host end and the queues that it is handed do: what the calls left is never refused
+  pub readable : isDevice (run cs x .device) ≡ true
+  pub passes : (host queues memory : List ℕ) → hosts.checkOf (hostAt host) (length queues) ≡ 0
+      → checkMachine (machineAt (lent (run cs x .device) host (run cs x .lists) queues memory)) ≡ 0
+  -- counts and pending completions are the book's
+  pub submitted : streamIn i (run cs x) .submitted ≡ bookOf i cs x .submitted
+  pub consumed : streamIn i (run cs x) .consumed ≡ bookOf i cs x .consumed
+  pub pending : pendingIn i (run cs x) ≡ bookOf i cs x .pending
+  -- consumed never passes submitted; pending positions rise strictly, above consumed and up to submitted
+  pub heard : streamIn i (run cs x) .consumed ≤ streamIn i (run cs x) .submitted
+  pub rises : Rises (streamIn i (run cs x) .consumed) (pendingIn i (run cs x)) (streamIn i (run cs x) .submitted)
+  -- nothing lost, nothing doubled: restored positions and then flagged ends are, in order, those retired and then those pending
+  pub exact : bookOf i cs x .ends ≡ bookOf i cs x .retired ++ bookOf i cs x .pending
+  -- a transfer fails for one of document 01's reasons, or because 4,352 are pending at a flagged end
+  pub founded : Failures isFounded (allEvents i cs x) (openingIn i x)
+
+-- no restore is accepted in the list
+abbrev pub NoRestore : List Step → Lent → Type 0
+NoRestore [] x = Unit {0}
+NoRestore (c ∷ cs) x = ((s : List ℕ) → c .call ≡ on (calls.restore s) → Accepted s (handed c x) → ⊥) × NoRestore cs (after (c .call) (handed c x))
+
+-- positions are 4 apart; the limit never stops a transfer: 4,352 are never pending, and a transfer fails for one of the other reasons alone
+pub record Spaced (i : ℕ) (cs : List Step) (x : Lent) : Type 0 where
+  pub apart : FourApart (pendingIn i (run cs x))
+  pub never : Few (allEvents i cs x) (openingIn i x)
+  pub otherwise : Failures isUnlimited (allEvents i cs x) (openingIn i x)
+
+pub record Demand3Bytes : Type 0 where
+  pub opens : (i : ℕ) → i < streams → Opens i
+  pub agrees : (i : ℕ) → i < streams → (cs : List Step) (x : Lent) → Starts x → Agrees i cs x
+  pub spaced : (i : ℕ) → i < streams → (cs : List Step) (microphone : Bool) (x : Lent) → newReply microphone x ≡ 0 → NoRestore cs (after (new microphone) x)
+      → Spaced i cs (after (new microphone) x)

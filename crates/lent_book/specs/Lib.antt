@@ -1,0 +1,4 @@
+pub mod Typed
+pub mod Lists
+pub mod Claim
+pub mod Corollaries
