@@ -10,6 +10,7 @@ pub mod ops;
 pub mod ported;
 pub mod record;
 pub mod refused;
+pub mod scenes;
 pub mod shrink;
 pub mod side;
 pub mod state;

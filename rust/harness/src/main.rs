@@ -32,7 +32,8 @@ judge run FILE [--side reference|amended|port]
 judge trace FILE [--port]
     Replays a driver's trace, with time passing between its lines.
 judge record FILE
-    Writes the calls that program rehearse runs, with the reference's answers: generated sequences, then the trace of FILE.
+    Writes the calls that program rehearse runs, with the reference's answers: generated sequences, some written by hand,
+    then the trace of FILE.
 judge --help";
 
 /// Unexplained partings that are shown in full.

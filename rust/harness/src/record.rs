@@ -10,6 +10,7 @@ use crate::device::{Amended, Reference};
 use crate::generate::Generator;
 use crate::ops::{Op, execute};
 use crate::refused;
+use crate::scenes;
 use crate::side::{Answer, Direction, Side, View};
 use crate::state::State;
 use crate::trace;
@@ -46,7 +47,7 @@ const SHORTEST: usize = 120;
 /// Calls between two restores of the device's own state, and the longest state that is restored: one with 32 positions, so that the file stays small.
 const RESTORES: usize = 120;
 const LONGEST: usize = 748 + 8 * 32;
-/// Calls between two looks at guest memory.
+/// Calls between two looks at guest memory, but in sequences written by hand, which are short: these look after each.
 const LOOKS: usize = 32;
 /// The driver's trace: its guest memory, the lines between two advances, their time, and the lines between two visits of the host.
 const TRACE_MEMORY: usize = 1 << 18;
@@ -54,7 +55,7 @@ const TRACE_LINES: usize = 4;
 const TRACE_TIME: u64 = 400_000;
 const TRACE_VISIT: usize = 40;
 
-/// The recorded sequences: generated ones, then a driver's trace.
+/// The recorded sequences: generated ones, those written by hand, then a driver's trace.
 pub fn record(text: &str) -> Result<Vec<u8>, String> {
     let mut data = Vec::new();
     for seed in 1..=SEEDS {
@@ -62,14 +63,17 @@ pub fn record(text: &str) -> Result<Vec<u8>, String> {
             data.extend(sequence);
         }
     }
-    data.extend(traced(text)?);
+    for scene in scenes::all() {
+        data.extend(whole(&scene, 1)?);
+    }
+    data.extend(whole(&traced(text)?, LOOKS)?);
     Ok(data)
 }
 
 /// A sequence of a seed up to the first difference, if it is long enough.
 fn generated(seed: u64, tame: bool) -> Option<Vec<u8>> {
     let mut generator = Generator::new(seed, tame);
-    let mut recorder = Recorder::new();
+    let mut recorder = Recorder::new(LOOKS);
     let mut calls = 0;
     while calls < LENGTH {
         let op = generator.next_op();
@@ -96,8 +100,18 @@ fn is_recorded(op: &Op) -> bool {
     }
 }
 
+/// A sequence in which no call may meet a difference, with so many calls between two looks at guest memory.
+fn whole(ops: &[Op], looks: usize) -> Result<Vec<u8>, String> {
+    let mut recorder = Recorder::new(looks);
+    for op in ops {
+        recorder.call(op).ok_or_else(|| format!("a difference is met at {op}"))?;
+    }
+    recorder.look();
+    Ok(recorder.data)
+}
+
 /// A driver's trace, with time passing and the host pulling and feeding.
-fn traced(text: &str) -> Result<Vec<u8>, String> {
+fn traced(text: &str) -> Result<Vec<Op>, String> {
     let mut ops = vec![Op::New { microphone: true, memory: TRACE_MEMORY }];
     for (line, step) in trace::parse(text)?.into_iter().enumerate() {
         ops.push(step.op);
@@ -108,12 +122,7 @@ fn traced(text: &str) -> Result<Vec<u8>, String> {
             ops.extend([Op::Pull(2048), Op::Feed(vec![line as u8; 400])]);
         }
     }
-    let mut recorder = Recorder::new();
-    for op in &ops {
-        recorder.call(op).ok_or_else(|| format!("the trace meets a difference at {op}"))?;
-    }
-    recorder.look();
-    Ok(recorder.data)
+    Ok(ops)
 }
 
 /// The judge with the bytes so far, and the amended oracle, which knows the differences.
@@ -122,6 +131,8 @@ struct Recorder {
     amended: Amended,
     data: Vec<u8>,
     calls: usize,
+    /// Calls between two looks at guest memory.
+    looks: usize,
     /// Whether the next register access goes by its base address: both forms are recorded, by turns.
     by_bar: bool,
 }
@@ -137,8 +148,9 @@ struct Call<'a> {
 }
 
 impl Recorder {
-    fn new() -> Self {
-        Self { reference: Reference::new(true, 0x1000), amended: Amended::new(true, 0x1000), data: Vec::new(), calls: 0, by_bar: false }
+    fn new(looks: usize) -> Self {
+        let (reference, amended) = (Reference::new(true, 0x1000), Amended::new(true, 0x1000));
+        Self { reference, amended, data: Vec::new(), calls: 0, looks, by_bar: false }
     }
 
     /// Makes a call and records it; none where it met a difference, and nothing is recorded then.
@@ -155,7 +167,7 @@ impl Recorder {
         assert!(answer == amended && self.reference.view() == self.amended.view(), "parted with no difference at {op}");
         self.lay(op, &answer);
         self.calls += 1;
-        if self.calls.is_multiple_of(LOOKS) {
+        if self.calls.is_multiple_of(self.looks) {
             self.look();
         }
         Some(answer)
@@ -321,5 +333,14 @@ mod tests {
     fn restores_are_accepted_and_refused_with_every_number() {
         let data = record("").expect("an empty trace meets no difference");
         assert_eq!(numbers(&data), (0..=9).collect());
+    }
+
+    #[test]
+    fn sequences_written_by_hand_are_recorded_whole() {
+        let data = record("").expect("an empty trace meets no difference");
+        for scene in scenes::all() {
+            let recorded = whole(&scene, 1).expect("it meets no difference");
+            assert!(data.windows(recorded.len()).any(|part| part == recorded));
+        }
     }
 }
