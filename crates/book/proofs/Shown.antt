@@ -43,7 +43,7 @@ use Rattle.calls.specs.Calls as calls
 use Rattle.calls.specs.Calls.{after}
 use Rattle.book.specs.Book.{Event, refused}
 use Rattle.book.specs.Events.{onlyIf, Given, givenOf, formattedEvents, servedEvents, turnEvents, serveEvents, advanceEvents, eventsOf}
-use Rattle.book.specs.Corollaries.{Whole, Shows, Serves, Served}
+use Rattle.book.specs.Corollaries.{Whole, Shows, Serves, Served, Declined}
 use Rattle.book.proofs.Loops.{each-split, each-range, each-turn}
 use Rattle.book.proofs.Consequences.{told}
 
@@ -288,6 +288,20 @@ advanced-shows nanos i own x t some =
     (λ _. by-not P (x .hda .paused || not (has 1 (byteAt (x .hda .regs) gctl))) (unchanged 0 x) (afterCommands nanos y) (onlyIf (dmaOf (y .hda .config) (y .hda .regs)) (serveEvents (x .host .downstream) nanos i y)) []
     (λ _ none. absurd none) (λ _. commands-shows (x .host .downstream) nanos i own y (clocked-waits (x .host .downstream) nanos i own x t)))
     (λ _ none. absurd none) some
+
+-- a refused opening is all of its turn
+declined-format : (v : Given) (regs : List ℕ) (codec : Codec) (h : Host) (microphone : Bool) (i nanos limit : ℕ) (s : Stream) (l part m : List ℕ) (f : Format) → (f ≡ Unsupported → ⊥)
+    → openStreamOf h microphone i .ok ≡ false → formattedEvents v regs codec h microphone i nanos limit s l part m f ≡ refused ∷ []
+declined-format v regs codec h microphone i nanos limit s l part m Unsupported known closed = absurd (known refl)
+declined-format v regs codec h microphone i nanos limit s l part m (Rate rate) known closed = rw closed
+
+pub declined : (i downstream nanos : ℕ) (x : Machine) → Declined i x → turnEvents downstream nanos i x ≡ refused ∷ []
+unfolding turnEvents
+declined i downstream nanos x r =
+    let d = x .hda in
+    rw (r .runs)
+    (declined-format (givenOf i downstream (d .regs)) (d .regs) (d .link .codec) (x .host) (d .microphone) i nanos capacity (streamAt d i) (partOf listSize i (x .lists)) (partOf capacity i (x .queues)) (x .memory)
+    (formatOf (wordAt 2 (fmt i) (d .regs))) (r .format) (r .closed))
 
 pub turned : (i : ℕ) → i < streams → (nanos : ℕ) (w : Turns) → Whole (w .machine .hda) → Served i (w .machine) → Shows i (turnAt nanos i w .machine .hda)
 turned i few nanos = turned-shows 0 nanos i few

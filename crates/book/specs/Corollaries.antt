@@ -1,7 +1,7 @@
 -- What follows from demand 3: no completion dropped or reported twice, the position register after a turn, and how far a stream is ahead of what is heard.
 use Prim.Native.Nat.{ℕ, _+_, _*_, _≤_, _<_}
 use mathlib.Core.Path.{_≡_}
-use mathlib.Core.Bool.{Bool, true, cond}
+use mathlib.Core.Bool.{Bool, true, false, cond}
 use mathlib.Core.List.{List, [], _∷_}
 use lib.Dec.{eqb}
 use lib.ListN.{length}
@@ -26,7 +26,7 @@ use Rattle.serve.specs.Serve.{Turns, runs, turnAt}
 use Rattle.calls.specs.Calls as calls
 use Rattle.calls.specs.Calls.{after}
 use Rattle.book.specs.Book.{Book, Event, reset, restored, moved, updated, failed, refused}
-use Rattle.book.specs.Events.{eventsOf}
+use Rattle.book.specs.Events.{turnEvents, eventsOf}
 use Rattle.book.specs.Lists.{Step, run, bookOf}
 use Rattle.book.specs.Claim.{made, Starts, NoRestore}
 
@@ -67,6 +67,12 @@ pub record Served (i : ℕ) (x : Machine) : Type 0 where
   pub format : formatOf (wordAt 2 (fmt i) (x .hda .regs)) ≡ Unsupported → ⊥
   pub opens : openStreamOf (x .host) (x .hda .microphone) i .ok ≡ true
 
+-- a stream's turn finds it running with a supported format, and the host refuses to open it
+pub record Declined (i : ℕ) (x : Machine) : Type 0 where
+  pub runs : runs (x .hda .regs) i ≡ true
+  pub format : formatOf (wordAt 2 (fmt i) (x .hda .regs)) ≡ Unsupported → ⊥
+  pub closed : openStreamOf (x .host) (x .hda .microphone) i .ok ≡ false
+
 -- the book begins with a position update: of an `advance`, that it served the stream
 abbrev pub Updates : Event → Type 0
 Updates reset = ⊥
@@ -87,6 +93,8 @@ pub record Corollaries : Type 0 where
   pub turned : (i : ℕ) → i < streams → (nanos : ℕ) (w : Turns) → Whole (w .machine .hda) → Served i (w .machine) → Shows i (turnAt nanos i w .machine .hda)
   pub advanced : (i : ℕ) → i < streams → (nanos : ℕ) (x : Machine) → Whole (x .hda) → Serves (eventsOf i (calls.advance nanos) x)
       → Shows i (after (calls.advance nanos) x .hda)
+  -- an opening that the host refuses in a turn is the book's event of that name, and all of the turn
+  pub declined : (i downstream nanos : ℕ) (x : Machine) → Declined i x → turnEvents downstream nanos i x ≡ refused ∷ []
   -- With no restore accepted before or in the list, submitted is at most a full queue and the largest downstream count ahead of consumed: 16,384 bytes, a transfer
   -- that fails included. What the host holds at that time cannot stand there: a pull takes frames out of the queue before the next turn moves consumed.
   pub near : (i : ℕ) → i < streams → (cs : List Step) (microphone : Bool) (h : Host) (lists queues memory : List ℕ) → listSize * streams ≤ length lists

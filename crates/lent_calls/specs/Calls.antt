@@ -43,7 +43,7 @@ Outcome (new microphone) = Made
 Outcome hostNew = Kept
 Outcome (on c) = OutcomeOn c
 
--- The call on all that a caller lends, by the definition that says what it does there. A function looks at no more than it is handed: hda_restore at no guest memory, the host end's at no device.
+-- The call on all that a caller lends, by the definition that says what it does there.
 abbrev pub callOn : (c : calls.Call) → Lent → OutcomeOn c
 callOn (calls.advance nanos) x = behind (advanceOf nanos) x
 callOn (calls.read offset into) x = readOf offset (x .device) (x .host) (x .lists) (length (x .queues)) into
@@ -66,6 +66,30 @@ abbrev pub callOf : (c : Call) → Lent → Outcome c
 callOf (new microphone) x = newOf microphone (x .device) (length (x .lists)) (length (x .queues))
 callOf hostNew x = ends.newOf (x .host) (length (x .queues))
 callOf (on c) x = callOn c x
+
+-- ---- what each function is handed of it, as crate port's contracts have it: none of the rest is looked at (proofs/Laws.antt: `looks-no-further`)
+abbrev pub handedOn : calls.Call → Lent → Lent
+handedOn (calls.advance nanos) x = x
+handedOn (calls.read offset into) x = lent (x .device) (x .host) (x .lists) (x .queues) none
+handedOn (calls.write offset bytes) x = x
+handedOn (calls.barRead bar offset into) x = lent (x .device) (x .host) (x .lists) (x .queues) none
+handedOn (calls.barWrite bar offset bytes) x = x
+handedOn (calls.configRead register) x = lent (x .device) (x .host) (x .lists) (x .queues) none
+handedOn (calls.configWrite register offset bytes) x = x
+handedOn (calls.pinChange node) x = x
+handedOn (calls.pause paused) x = lent (x .device) (x .host) (x .lists) (x .queues) none
+handedOn (calls.feed frames) x = lent none (x .host) none (x .queues) none
+handedOn (calls.pull into) x = lent none (x .host) none (x .queues) none
+handedOn (calls.playbackFails fails) x = lent none (x .host) none (x .queues) none
+handedOn (calls.captureFails fails) x = lent none (x .host) none (x .queues) none
+handedOn (calls.downstream bytes) x = lent none (x .host) none (x .queues) none
+handedOn (calls.save into) x = lent (x .device) (x .host) (x .lists) (x .queues) none
+handedOn (calls.restore state) x = lent (x .device) (x .host) (x .lists) (x .queues) none
+
+abbrev pub handedTo : Call → Lent → Lent
+handedTo (new microphone) x = lent (x .device) none (x .lists) (x .queues) none
+handedTo hostNew x = lent none (x .host) none (x .queues) none
+handedTo (on c) x = handedOn c x
 
 -- ---- all that a caller lends after a call: what the function changed, in its place
 abbrev pub withDevice : Lent → List ℕ → Lent
