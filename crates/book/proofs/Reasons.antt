@@ -1,21 +1,22 @@
--- A buffer that a transfer does not take, and a plan that moves nothing, have one of document 01's reasons or meet the limit. Assumes nothing.
-use Prim.Native.Nat.{ℕ, _+_, _-_, _%_}
+-- A buffer that a transfer does not take, and a plan that moves nothing, have one of document 01's reasons or meet the limit; and only these have. Assumes nothing.
+use Prim.Native.Nat.{ℕ, zero, suc, _+_, _-_, _%_}
 use mathlib.Core.Path.{_≡_, refl, sym, _∙_}
-use mathlib.Core.Bool.{Bool, true, false, not, _||_, true≢false}
-use mathlib.Core.List.{List}
-use borrow.Author.Tests.{not-false, ltb-false, leb-false, le-leb, lt-ltb}
+use mathlib.Core.Bool.{Bool, true, false, not, _&&_, _||_, true≢false}
+use mathlib.Core.List.{List, [], _∷_}
+use borrow.Author.Tests.{not-false, ltb-true, ltb-false, leb-true, leb-false, le-leb, lt-leb, lt-ltb, le-ltb}
 use lib.Dec.{eqb, leb, ltb}
-use lib.ListN.{length}
+use lib.ListN.{length, getD}
 use Rattle.word.proofs.Choices.{by-test, by-cond, neither}
+use Rattle.memory.specs.declared.Fetched.the-variants.{Outside}
 use Rattle.memory.specs.Memory.{entryAt, descriptorOf}
 use Rattle.stream.specs.declared.Stream.{Stream}
 use Rattle.stream.specs.declared.Cyclic.{Cyclic}
 use Rattle.plan.specs.declared.Plan.{Plan}
 use Rattle.plan.specs.declared.Plan.the-variants.{Failed, Full, Move}
 use Rattle.stream.specs.Streams.{places, maxCount}
-use Rattle.plan.specs.Plans.{readyOf, endOf, placedOf, entryOf, planOf}
+use Rattle.plan.specs.Plans.{readyOf, endOf, placedOf, entryOf, fetchedOf, planOf}
 use Rattle.book.specs.Book.{Attempt, limit}
-use Rattle.book.specs.Reasons.{isReason, isLimit, isFlagged, placeOf, addressOf, lengthOf, pieceOf}
+use Rattle.book.specs.Reasons.{reasonsOf, anyOf, isReason, isLimit, isFlagged, placeOf, addressOf, lengthOf, pieceOf}
 use Rattle.book.specs.Events.{Given, attemptOf}
 
 -- the cyclic buffer by the registers that the book has
@@ -40,29 +41,27 @@ record Clear (a : Attempt) (submitted : ℕ) : Type 0 where
   held : ltb (length (a .memory)) (addressOf a + (a .offset + pieceOf a submitted)) ≡ false
   counted : ltb 0xffff_ffff_ffff_ffff (submitted + pieceOf a submitted) ≡ false
 
+-- none of several tests holds: so not the one with this number
+none-of : (ts : List Bool) → anyOf ts ≡ false → (k : ℕ) → getD ts k false ≡ false
+none-of [] e k = refl
+none-of (t ∷ ts) e zero = neither t (anyOf ts) e .0
+none-of (t ∷ ts) e (suc k) = none-of ts (neither t (anyOf ts) e .1) k
+
 clear : (a : Attempt) (submitted : ℕ) → isReason a submitted ≡ false → Clear a submitted
 unfolding isReason
 clear a submitted e =
-    let n9 = neither _ (ltb 0xffff_ffff_ffff_ffff (submitted + pieceOf a submitted)) e in
-    let n8 = neither _ (ltb (length (a .memory)) (addressOf a + (a .offset + pieceOf a submitted))) (n9 .0) in
-    let n7 = neither _ (leb (lengthOf a) (a .offset)) (n8 .0) in
-    let n6 = neither _ (not (eqb (lengthOf a % 4) 0)) (n7 .0) in
-    let n5 = neither _ (eqb (lengthOf a) 0) (n6 .0) in
-    let n4 = neither _ (ltb (length (a .memory)) (placeOf a + 16)) (n5 .0) in
-    let n3 = neither _ (ltb (a .last) (a .index)) (n4 .0) in
-    let n2 = neither _ (ltb 255 (a .last)) (n3 .0) in
-    let n1 = neither (eqb (a .cyclic) 0) (not (eqb (a .cyclic % 4) 0)) (n2 .0) in
+    let none = none-of (reasonsOf a submitted) e in
     record {
-      some = n1 .0;
-      whole = not-false _ (n1 .1);
-      byte = n2 .1;
-      listed = n3 .1;
-      there = n4 .1;
-      long = n5 .1;
-      even = not-false _ (n6 .1);
-      inside = n7 .1;
-      held = n8 .1;
-      counted = n9 .1;
+      some = none 0;
+      whole = not-false _ (none 1);
+      byte = none 2;
+      listed = none 3;
+      there = none 4;
+      long = none 5;
+      even = not-false _ (none 6);
+      inside = none 7;
+      held = none 8;
+      counted = none 9;
     }
 
 -- what a test that fails says of the other way round
@@ -121,3 +120,61 @@ module _ (v : Given) (s : Stream) (m : List ℕ) (left : ℕ) where
 
   pub unmoved-reasoned : moves (planOf (bufferOf v) s m left) ≡ false → Reasoned
   unmoved-reasoned e = reasoned (λ c unlimited. true≢false (sym (clear-moves unlimited c) ∙ e))
+
+  -- ---- and the other way round: where the buffer is taken and the piece moves, nothing speaks against it
+  abbrev Reason : Bool
+  Reason = isReason attempt (s .submitted) || isLimit attempt (s .submitted) (s .pending)
+
+  abbrev Quiet : Plan → Type 0
+  Quiet p = moves p ≡ true → Reason ≡ false
+
+  stops : Quiet Failed
+  stops e = absurd (true≢false (sym e))
+
+  taken-quiet : eqb (v .cyclic) 0 ≡ false → eqb (v .cyclic % 4) 0 ≡ true → leb (v .last) 255 ≡ true → Quiet (planOf (bufferOf v) s m left)
+  unfolding planOf descriptorOf entryAt entryOf placedOf endOf isReason isLimit
+  taken-quiet some whole byte =
+      let n = pieceOf attempt (s .submitted) in
+      let size = length m in
+      by-cond Quiet (ltb (v .last) (s .descriptor)) Failed _ (λ _. stops)
+      (λ listed. by-cond (λ f. Quiet (fetchedOf (bufferOf v) s size left f)) (leb (placeOf attempt + 16) size) _ Outside
+      (λ there. by-cond Quiet (eqb (lengthOf attempt) 0) Failed _ (λ _. stops)
+      (λ long. by-cond Quiet (eqb (lengthOf attempt % 4) 0) _ Failed
+      (λ even. by-cond Quiet (ltb (s .offset) (lengthOf attempt)) _ Failed
+      (λ inside. by-cond Quiet (leb (addressOf attempt + (s .offset + n)) size) _ Failed
+      (λ held. by-cond Quiet (leb (s .submitted + n) maxCount) _ Failed
+      (λ counted.
+      let free : isReason attempt (s .submitted) ≡ false =
+      rw (
+        some,
+        whole,
+        le-ltb 255 (v .last) (leb-true (v .last) 255 byte),
+        listed,
+        le-ltb size (placeOf attempt + 16) (leb-true (placeOf attempt + 16) size there),
+        long,
+        even,
+        lt-leb (lengthOf attempt) (s .offset) (ltb-true (s .offset) (lengthOf attempt) inside),
+        le-ltb size (addressOf attempt + (s .offset + n)) (leb-true (addressOf attempt + (s .offset + n)) size held),
+        le-ltb maxCount (s .submitted + n) (leb-true (s .submitted + n) maxCount counted),
+      ) in
+      by-cond Quiet (eqb (s .offset + n) (lengthOf attempt)) _ _
+      (λ ends. by-cond Quiet (isFlagged attempt) _ _
+      (λ flagged. by-cond Quiet (ltb (s .pending) places) _ Full
+      (λ room _. rw (free, ends, flagged, lt-leb limit (s .pending) (ltb-true (s .pending) places room))) (λ _ e. absurd (true≢false (sym e))))
+      (λ plain _. rw (free, ends, plain)))
+      (λ inside _. rw (free, inside)))
+      (λ _. stops)) (λ _. stops)) (λ _. stops)) (λ _. stops))) (λ _. stops))
+
+  ready-quiet : readyOf (bufferOf v) ≡ true → Quiet (planOf (bufferOf v) s m left)
+  unfolding readyOf
+  ready-quiet =
+      let P : Bool → Type 0 = λ b. b ≡ true → Quiet (planOf (bufferOf v) s m left) in
+      by-cond P (eqb (v .cyclic) 0) false _ (λ _ e. absurd (true≢false (sym e)))
+      (λ some. by-cond P (eqb (v .cyclic % 4) 0) (leb (v .last) 255) false (λ whole byte. taken-quiet some whole byte) (λ _ e. absurd (true≢false (sym e))))
+
+  -- the reasons are exactly the device's
+  pub reasons-exact : Reason ≡ not (readyOf (bufferOf v) && moves (planOf (bufferOf v) s m left))
+  reasons-exact =
+      by-test (readyOf (bufferOf v))
+      (λ ready. by-test (moves (planOf (bufferOf v) s m left)) (λ moved. rw (ready, moved) (ready-quiet ready moved)) (λ stopped. rw (ready, stopped) (unmoved-reasoned stopped)))
+      (λ unready. rw unready (unready-reasoned unready))

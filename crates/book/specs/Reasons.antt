@@ -1,7 +1,7 @@
 -- Why a transfer may fail, from document 01's sentences ("Stream transfer", "Where port and Rust part") and the registers, descriptor and memory that it met: no definition of the device is asked.
 use Prim.Native.Nat.{ℕ, _+_, _-_, _*_, _/_, _%_, min}
 use mathlib.Core.Path.{_≡_}
-use mathlib.Core.Bool.{Bool, true, not, _&&_, _||_}
+use mathlib.Core.Bool.{Bool, true, false, not, _&&_, _||_}
 use mathlib.Core.List.{List, [], _∷_}
 use lib.Dec.{eqb, leb, ltb}
 use lib.ListN.{length}
@@ -25,20 +25,28 @@ isFlagged a = eqb (wordAt 4 (placeOf a + 12) (a .memory) % 2) 1
 abbrev pub pieceOf : Attempt → ℕ → ℕ
 pieceOf a submitted = min (min (a .left) (lengthOf a - a .offset)) (a .cyclic - submitted % a .cyclic)
 
--- The cyclic length is 0 or no multiple of 4, the last index is above 255, the descriptor's index is above the last; memory has no such descriptor; its length is 0 or no multiple of 4, the offset
--- reaches it; memory does not have the bytes; submitted would pass its largest value. An address past 64 bits is one that memory does not have.
-unfoldable pub isReason : Attempt → ℕ → Bool
-isReason a submitted =
+-- Each reason as a test: the cyclic length is 0 or no multiple of 4, the last index is above 255, the descriptor's index is above the last; memory has no such descriptor; its length is 0 or no multiple of 4,
+-- the offset reaches it; memory does not have the bytes; submitted would pass its largest value. An address past 64 bits is one that memory does not have.
+abbrev pub reasonsOf : Attempt → ℕ → List Bool
+reasonsOf a submitted =
     eqb (a .cyclic) 0
-    || not (eqb (a .cyclic % 4) 0)
-    || ltb 255 (a .last)
-    || ltb (a .last) (a .index)
-    || ltb (length (a .memory)) (placeOf a + 16)
-    || eqb (lengthOf a) 0
-    || not (eqb (lengthOf a % 4) 0)
-    || leb (lengthOf a) (a .offset)
-    || ltb (length (a .memory)) (addressOf a + (a .offset + pieceOf a submitted))
-    || ltb 0xffff_ffff_ffff_ffff (submitted + pieceOf a submitted)
+    ∷ not (eqb (a .cyclic % 4) 0)
+    ∷ ltb 255 (a .last)
+    ∷ ltb (a .last) (a .index)
+    ∷ ltb (length (a .memory)) (placeOf a + 16)
+    ∷ eqb (lengthOf a) 0
+    ∷ not (eqb (lengthOf a % 4) 0)
+    ∷ leb (lengthOf a) (a .offset)
+    ∷ ltb (length (a .memory)) (addressOf a + (a .offset + pieceOf a submitted))
+    ∷ ltb 0xffff_ffff_ffff_ffff (submitted + pieceOf a submitted)
+    ∷ []
+
+abbrev pub anyOf : List Bool → Bool
+anyOf [] = false
+anyOf (t ∷ ts) = t || anyOf ts
+
+unfoldable pub isReason : Attempt → ℕ → Bool
+isReason a submitted = anyOf (reasonsOf a submitted)
 
 -- the limit: the piece reaches the length of a flagged descriptor, and 4,352 are pending
 unfoldable pub isLimit : Attempt → ℕ → ℕ → Bool
