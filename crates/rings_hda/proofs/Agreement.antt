@@ -28,13 +28,13 @@ use Rattle.rings_hda.specs.Steps.{ringState, deviceCommand, deviceFetch,
 pub run-bit : (b : ℕ) → has 2 b ≡ bit 2 b
 run-bit b = by-bit (b / 2) (λ e. rw (and-high b 1 1, e)) (λ e. rw (and-high b 1 1, e))
 
-high-bit : (b : ℕ) → has 0x80 b ≡ bit 0x80 b
+pub high-bit : (b : ℕ) → has 0x80 b ≡ bit 0x80 b
 high-bit b = by-bit (b / 0x80) (λ e. rw (and-high b 1 7, e)) (λ e. rw (and-high b 1 7, e))
 
 master-bit : (b : ℕ) → has 4 b ≡ bit 4 b
 master-bit b = by-bit (b / 4) (λ e. rw (and-high b 1 2, e)) (λ e. rw (and-high b 1 2, e))
 
-low-bit : (b : ℕ) → has 1 b ≡ bit 1 b
+pub low-bit : (b : ℕ) → has 1 b ≡ bit 1 b
 low-bit b = by-bit (b / 1) (λ e. rw (and-high b 1 0, e)) (λ e. rw (and-high b 1 0, e))
 
 -- Ring DMA is on in the device exactly where HDA has it on.

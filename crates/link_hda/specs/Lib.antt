@@ -1,0 +1,4 @@
+pub mod Unsolicited
+pub mod Immediate
+pub mod Exceptions
+pub mod Steps
