@@ -41,7 +41,7 @@ pub data Special : Type 0 where
   ReadPointerReset : Special
   -- RIRBWP's high byte: bit 7 sets the write pointer to 0
   WritePointerReset : Special
-  -- ICIS: the immediate command (crate immediate says what it does)
+  -- ICIS: the immediate command (crate link_hda has what HDA says of it)
   ImmediateCommand : Special
   -- size code 3, in CORBSIZE or RIRBSIZE: reserved in HDA; the device leaves the register as it is
   SizeReserved : Special
