@@ -49,26 +49,26 @@ abbrev pub above : ℕ → List ℕ → List ℕ
 above c [] = []
 above c (p ∷ ps) = cond (leb p c) (above c ps) (p ∷ above c ps)
 
--- "Stream made or reset: lists empty, counts as in the Rust"
+-- a stream that is made or reset, by itself or with the controller: both counts 0, as in the Rust, and nothing listed
 abbrev pub made : Book
 made = book 0 0 [] [] []
 
--- "The positions stand in ends and pending; retired is empty"
+-- an accepted restore: the state's counts and positions; these are ends that none has retired of
 abbrev pub restoredWith : ℕ → ℕ → List ℕ → Book
 restoredWith submitted consumed positions = book submitted consumed positions [] positions
 
--- "submitted grows by its bytes. A flagged end then puts submitted last in ends and pending"
+-- a piece moved: its bytes are submitted, and then a flagged end stands behind the ends and the pending ones, at that count
 abbrev pub movedBy : ℕ → Bool → Book → Book
 movedBy n false b = book (b .submitted + n) (b .consumed) (b .ends) (b .retired) (b .pending)
 movedBy n true b =
     let submitted = b .submitted + n in
     book submitted (b .consumed) (b .ends ++ (submitted ∷ [])) (b .retired) (b .pending ++ (submitted ∷ []))
 
--- "Pending positions up to it go, in order, behind those retired"
+-- consumed moves: what is pending up to there retires, in order
 abbrev pub consumedTo : ℕ → Book → Book
 consumedTo c b = book (b .submitted) c (b .ends) (b .retired ++ upTo c (b .pending)) (above c (b .pending))
 
--- "consumed becomes the larger of itself and submitted less latency"; a failed transfer and a refused opening let stand what came before
+-- A position update moves consumed on to what is submitted and no longer held back by latency, never back. A failed transfer and a refused opening let stand what came before.
 unfoldable pub note : Event → Book → Book
 note reset b = made
 note (restored submitted consumed positions) b = restoredWith submitted consumed positions

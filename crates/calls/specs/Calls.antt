@@ -76,7 +76,7 @@ after (downstream n) x = withHost x (downstreamOf (x .host) (length (x .queues))
 after (save into) x = x
 after (restore state) x = withRestored x (restoreOf state (x .hda) (x .host) (x .lists) (length (x .queues)))
 
--- what the types say of the bytes that a call writes to the registers, and of those of a state
+-- what the types say of the bytes that a call writes to the registers, of frames, and of a state
 abbrev pub Typed : Call → Type 0
 Typed (advance nanos) = Unit {0}
 Typed (read offset into) = Unit {0}
@@ -87,7 +87,7 @@ Typed (configRead register) = Unit {0}
 Typed (configWrite register offset bytes) = Unit {0}
 Typed (pinChange node) = Unit {0}
 Typed (pause paused) = Unit {0}
-Typed (feed frames) = Unit {0}
+Typed (feed frames) = Bytes frames
 Typed (pull into) = Unit {0}
 Typed (playbackFails fails) = Unit {0}
 Typed (captureFails fails) = Unit {0}

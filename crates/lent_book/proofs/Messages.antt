@@ -19,7 +19,7 @@ use Rattle.port_device.proofs.Theorems.{Placed, message-place, advance-placed, 
 use Rattle.calls.specs.Calls as calls
 use Rattle.calls.specs.Calls.{leftOf}
 use Rattle.lent_calls.specs.Calls.{on, after}
-use Rattle.lent_book.specs.Typed.{TypedMachine, TypedCall}
+use Rattle.lent_book.specs.Typed.{TypedMachine}
 use Rattle.lent_book.specs.Claim.{Lends}
 use Rattle.lent_book.proofs.Typed.{after-typed}
 use Rattle.lent_book.proofs.Records.{bytes-ready, machine-typed}
@@ -34,7 +34,7 @@ module _ (x : Lent) (bytes : Lends x) (e : isMachine (x .device) (x .host) ≡ t
       machine-typed x (bytes-ready (x .device) (machine-device (x .device) (x .host) e) (bytes .device)) (machine-host (x .device) (x .host) e) (bytes .host) (bytes .queues) (bytes .memory)
 
   -- what a call leaves has a configuration of 256 bytes
-  by-call : (c : calls.Call) → TypedCall c → (call : Machine → Done) → calls.after c (machineAt x) ≡ leftOf (call (machineAt x)) → Placed (call (machineAt x) .answer)
+  by-call : (c : calls.Call) → calls.Typed c → (call : Machine → Done) → calls.after c (machineAt x) ≡ leftOf (call (machineAt x)) → Placed (call (machineAt x) .answer)
       → (address value : ℕ) → call (machineAt x) .answer .msi ≡ Message address value → Holds (behind call x .lent .device) address value
   by-call c typed call same placed =
       let size : length (call (machineAt x) .answer .hda .config) ≡ 256 = rw same at (after-typed c typed (machineAt x) found .device .sized .config) in
@@ -43,27 +43,27 @@ module _ (x : Lent) (bytes : Lends x) (e : isMachine (x .device) (x .host) ≡ t
   pub advance-message : (nanos address value : ℕ) → advanceOf nanos (machineAt x) .answer .msi ≡ Message address value
       → Holds (after (on (calls.advance nanos)) x .device) address value
   unfolding after calls.after
-  advance-message nanos = by-call (calls.advance nanos) (tt, tt) (advanceOf nanos) refl (advance-placed nanos (machineAt x))
+  advance-message nanos = by-call (calls.advance nanos) tt (advanceOf nanos) refl (advance-placed nanos (machineAt x))
 
   pub write-message : (offset : ℕ) (written : List ℕ) → Bytes written → (address value : ℕ) → writeOf offset written (machineAt x) .answer .msi ≡ Message address value
       → Holds (after (on (calls.write offset written)) x .device) address value
   unfolding after calls.after
-  write-message offset written h = by-call (calls.write offset written) (h, tt) (writeOf offset written) refl (write-placed offset written (machineAt x))
+  write-message offset written h = by-call (calls.write offset written) h (writeOf offset written) refl (write-placed offset written (machineAt x))
 
   pub bar-write-message : (bar offset : ℕ) (written : List ℕ) → Bytes written → (address value : ℕ) → barWriteOf bar offset written (machineAt x) .answer .msi ≡ Message address value
       → Holds (after (on (calls.barWrite bar offset written)) x .device) address value
   unfolding after calls.after
-  bar-write-message bar offset written h = by-call (calls.barWrite bar offset written) (h, tt) (barWriteOf bar offset written) refl (bar-write-placed bar offset written (machineAt x))
+  bar-write-message bar offset written h = by-call (calls.barWrite bar offset written) h (barWriteOf bar offset written) refl (bar-write-placed bar offset written (machineAt x))
 
   pub config-write-message : (register offset : ℕ) (written : List ℕ) (address value : ℕ) → configWriteOf register offset written (machineAt x) .answer .msi ≡ Message address value
       → Holds (after (on (calls.configWrite register offset written)) x .device) address value
   unfolding after calls.after
   config-write-message register offset written =
-      by-call (calls.configWrite register offset written) (tt, tt) (configWriteOf register offset written) refl (config-write-placed register offset written (machineAt x))
+      by-call (calls.configWrite register offset written) tt (configWriteOf register offset written) refl (config-write-placed register offset written (machineAt x))
 
   pub pin-message : (node address value : ℕ) → pinOf node (machineAt x) .answer .msi ≡ Message address value → Holds (after (on (calls.pinChange node)) x .device) address value
   unfolding after calls.after
-  pin-message node = by-call (calls.pinChange node) (tt, tt) (pinOf node) refl (pin-placed node (machineAt x))
+  pin-message node = by-call (calls.pinChange node) tt (pinOf node) refl (pin-placed node (machineAt x))
 
 -- hda_restore is lent no memory
 pub restore-message : (x : Lent) → Lends x → isMachine (x .device) (x .host) ≡ true → (state : List ℕ) → Bytes state → (address value : ℕ)
@@ -71,4 +71,4 @@ pub restore-message : (x : Lent) → Lends x → isMachine (x .device) (x .host)
 unfolding after calls.after
 restore-message x bytes e state h =
     let y = lent (x .device) (x .host) (x .lists) (x .queues) none in
-    by-call y (record { device = bytes .device; host = bytes .host; queues = bytes .queues; memory = λ _. omega arith }) e (calls.restore state) (h, tt) (restoredBy state) refl (restore-placed state (machineAt y))
+    by-call y (record { device = bytes .device; host = bytes .host; queues = bytes .queues; memory = λ _. omega arith }) e (calls.restore state) h (restoredBy state) refl (restore-placed state (machineAt y))

@@ -36,7 +36,7 @@ use Rattle.port_device.specs.Calls.{Lent, lent, machineAt, behind, pausedOf}
 use Rattle.port_host.specs.Calls as ends
 use Rattle.calls.specs.Calls as calls
 use Rattle.calls.specs.Calls.{after, leftOf}
-use Rattle.lent_book.specs.Typed.{TypedMachine, TypedCall}
+use Rattle.lent_book.specs.Typed.{TypedMachine}
 use Rattle.lent_calls.specs.Calls as lents
 use Rattle.lent_book.proofs.Turns.{bytes-part}
 use Rattle.lent_book.proofs.Typed.{after-typed}
@@ -149,7 +149,7 @@ module _ (x : Lent) (e : isMachine (x .device) (x .host) ≡ true) (t : TypedMac
   unfolding lents.after after behind
   restore-meets state k = rw e (whole-meets (after (calls.restore state) (machineAt x)) k)
 
-  pub left-meets : (c : calls.Call) → TypedCall c → Meets (lents.after (lents.on c) x) (after c (machineAt x))
+  pub left-meets : (c : calls.Call) → calls.Typed c → Meets (lents.after (lents.on c) x) (after c (machineAt x))
   unfolding lents.after after
   left-meets (calls.advance nanos) c = behind-meets (advanceOf nanos) (after-typed (calls.advance nanos) c (machineAt x) t)
   left-meets (calls.read offset into) c = record { same = refl; there = there }

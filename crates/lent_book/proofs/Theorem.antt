@@ -58,7 +58,7 @@ use Rattle.book.proofs.Calls.{after-held}
 use Rattle.book.proofs.Consequences.{once-each}
 use Rattle.book.proofs.Shown as shown
 use Rattle.book.proofs.Theorem.{opened, new-begins, restored-begins, fresh-at, fresh-count, fresh-opens, resumed-opens}
-use Rattle.lent_book.specs.Typed.{TypedMachine, TypedCall}
+use Rattle.lent_book.specs.Typed.{TypedMachine}
 use Rattle.lent_calls.specs.Calls.{Call, new, hostNew, on, withDevice, after}
 use Rattle.lent_book.specs.Lists.{Typed, Step, handed, run, streamIn, pendingIn, openingIn, newReply, eventsOf, allEvents, bookOf}
 use Rattle.lent_book.specs.Claim.{Accepted, Lends, Starts, made, restored, Opens, Agrees, NoRestore, Spaced}
@@ -179,7 +179,7 @@ module _ (F : Type 0) (i : ℕ) (own : i < streams) where
   stays a x y ed el s = record { ready = rw ed (s .ready); sound = rw (ed, el) (s .sound); held = rw (ed, el) (s .held) }
 
   -- a function of a call
-  module _ (c : calls.Call) (x : Lent) (a : Ghost) (host : Bytes (x .host)) (queues : Bytes (x .queues)) (memory : Bytes (x .memory)) (typed : TypedCall c)
+  module _ (c : calls.Call) (x : Lent) (a : Ghost) (host : Bytes (x .host)) (queues : Bytes (x .queues)) (memory : Bytes (x .memory)) (typed : calls.Typed c)
       (none : F → (s : List ℕ) → c ≡ calls.restore s → Accepted s x → ⊥) (s : Stood a x) where
     left-stood : (b : Bool) → isMachine (x .device) (x .host) ≡ b → Stood (sees (cond b (events.eventsOf i c (machineAt x)) []) a) (after (on c) x)
     left-stood true e =
@@ -191,7 +191,7 @@ module _ (F : Type 0) (i : ℕ) (own : i < streams) where
         after-held F i own c (machineAt x) a (λ f state same accepts. none f state same (accepting state x e accepts)) (t .host .count) (s .held) in
         record {
           ready = stored-ready (after (on c) x .device) (m .there) y (ap (λ (z : Machine). z .hda) (m .same)) (after-typed c typed (machineAt x) t);
-          sound = subst (λ (z : Machine). devices.validOf (z .hda) (z .lists) ≡ true) (sym (m .same)) (after-sound c (typed .0) (machineAt x) t (s .sound));
+          sound = subst (λ (z : Machine). devices.validOf (z .hda) (z .lists) ≡ true) (sym (m .same)) (after-sound c typed (machineAt x) t (s .sound));
           held = subst (λ (z : Machine). Held F i (z .hda .streams) (z .lists) a′) (sym (m .same)) h;
         }
     left-stood false e = let k = left-stays x e c in stays a x (after (on c) x) (k .device) (k .lists) s
@@ -222,7 +222,7 @@ module _ (F : Type 0) (i : ℕ) (own : i < streams) where
   unfolding after eventsOf
   host-stood x a s = stays a x (after hostNew x) refl refl s
 
-  on-stood : (c : calls.Call) (x : Lent) (a : Ghost) → Bytes (x .host) → Bytes (x .queues) → Bytes (x .memory) → TypedCall c
+  on-stood : (c : calls.Call) (x : Lent) (a : Ghost) → Bytes (x .host) → Bytes (x .queues) → Bytes (x .memory) → calls.Typed c
       → (F → (s : List ℕ) → on c ≡ on (calls.restore s) → Accepted s x → ⊥) → Stood a x → Stood (sees (eventsOf i (on c) x) a) (after (on c) x)
   unfolding eventsOf after
   on-stood c x a host queues memory typed none s =
@@ -271,14 +271,14 @@ module _ (s : List ℕ) (x : Lent) (typed : Bytes s) (h : Lends x) (z : Accepted
 
   resumed-meets : Meets resumes (calls.after (calls.restore s) (machineAt x))
   unfolding after
-  resumed-meets = left-meets x (e .0) found (calls.restore s) (typed, tt)
+  resumed-meets = left-meets x (e .0) found (calls.restore s) typed
 
   resumed-stood : (i : ℕ) (own : i < streams) → Stood ⊥ i own (opened i (machineAt resumes)) resumes
   resumed-stood i own =
       let m = resumed-meets in
       let y = calls.after (calls.restore s) (machineAt x) in
       record {
-        ready = stored-ready (resumes .device) (m .there) y (ap (λ (z : Machine). z .hda) (m .same)) (after-typed (calls.restore s) (typed, tt) (machineAt x) found);
+        ready = stored-ready (resumes .device) (m .there) y (ap (λ (z : Machine). z .hda) (m .same)) (after-typed (calls.restore s) typed (machineAt x) found);
         sound = subst (λ (z : Machine). devices.validOf (z .hda) (z .lists) ≡ true) (sym (m .same)) (restored-sound s (machineAt x) (e .1));
         held = subst (λ (z : Machine). Held ⊥ i (z .hda .streams) (z .lists) (opened i z)) (sym (m .same)) (restored-begins i own s (machineAt x) (e .1));
       }
@@ -388,7 +388,7 @@ module _ (i : ℕ) (own : i < streams) (nanos : ℕ) (x : Lent) (ready : Ready (
   served-shows true e serves =
       let c = calls.advance nanos in
       let t = machine-typed x ready (machine-host (x .device) (x .host) e) host queues memory in
-      let m = left-meets x e t c (tt, tt) in
+      let m = left-meets x e t c tt in
       shows-in i own (after (on c) x)
       (subst (λ (z : Machine). Shows i (z .hda)) (sym (m .same))
       (shown.advanced i own nanos (machineAt x) (record { sized = t .device .sized .regs; bytes = t .regs; count = t .device .count }) serves))

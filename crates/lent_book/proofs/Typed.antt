@@ -44,7 +44,7 @@ use Rattle.host_record.specs.Typed.{TypedHost}
 use Rattle.calls.specs.Calls as calls
 use Rattle.calls.specs.Calls.{Call, after}
 use Rattle.calls.proofs.Validity.{after-valid}
-use Rattle.lent_book.specs.Typed.{TypedMachine, TypedCall}
+use Rattle.lent_book.specs.Typed.{TypedMachine}
 use Rattle.lent_book.proofs.Turns.{Counts, with-queue-typed, put-fits, take-fits, put-bytes, take-bytes, bytes-part, turn-turned}
 use Rattle.lent_book.proofs.Devices.{Formed, Shaped, with-stream, commanded-formed, finish-formed, ticked-formed, configured-formed, paused-formed, unsolicited-formed, written-formed, commanded-bytes, unsolicited-bytes, tail-shaped, restored-formed, restored-typed}
 
@@ -240,7 +240,7 @@ module _ (h : Host) (t : TypedHost h) where
 with-host : (x : Machine) → Kept x → (h : Host) (queues : List ℕ) → TypedHost h → Bytes queues → Kept (calls.withHost x h queues)
 with-host x k h queues t b = record { device = k .device; host = t; queues = b; memory = k .memory }
 
-after-kept : (c : Call) → TypedCall c → (x : Machine) → Kept x → Kept (after c x)
+after-kept : (c : Call) → calls.Typed c → (x : Machine) → Kept x → Kept (after c x)
 unfolding after
 after-kept (calls.advance nanos) t x k = advance-leaves nanos x k
 after-kept (calls.read offset into) t x k = k
@@ -251,13 +251,13 @@ after-kept (calls.configRead register) t x k = k
 after-kept (calls.configWrite register offset bytes) t x k = config-leaves x k register offset bytes
 after-kept (calls.pinChange node) t x k = pin-leaves x k node
 after-kept (calls.pause paused) t x k = record { device = pause-formed x k paused; host = k .host; queues = k .queues; memory = k .memory }
-after-kept (calls.feed frames) t x k = let f = feed-typed (x .host) (k .host) (x .queues) frames (k .queues) (t .1) in with-host x k _ _ (f .0) (f .1)
+after-kept (calls.feed frames) t x k = let f = feed-typed (x .host) (k .host) (x .queues) frames (k .queues) t in with-host x k _ _ (f .0) (f .1)
 after-kept (calls.pull into) t x k = let f = pull-typed (x .host) (k .host) (x .queues) into (k .queues) in with-host x k _ _ (f .0) (f .1)
 after-kept (calls.playbackFails fails) t x k = with-host x k _ (x .queues) (playback-typed (x .host) (k .host) (length (x .queues)) fails) (k .queues)
 after-kept (calls.captureFails fails) t x k = with-host x k _ (x .queues) (capture-typed (x .host) (k .host) (length (x .queues)) fails) (k .queues)
 after-kept (calls.downstream n) t x k = with-host x k _ (x .queues) (downstream-typed (x .host) (k .host) (length (x .queues)) n) (k .queues)
 after-kept (calls.save into) t x k = k
-after-kept (calls.restore state) t x k = restore-kept x k state (t .0)
+after-kept (calls.restore state) t x k = restore-kept x k state t
 
 -- a device that passes the check has the other widths too
 stream-typed : (s : Stream) (l : List ℕ) → validOf s l ≡ true → Counts s → TypedStream s
@@ -329,7 +329,7 @@ kept x t =
       memory = t .memory;
     }
 
-pub after-typed : (c : Call) → TypedCall c → (x : Machine) → TypedMachine x → TypedMachine (after c x)
+pub after-typed : (c : Call) → calls.Typed c → (x : Machine) → TypedMachine x → TypedMachine (after c x)
 after-typed c typed x t =
     let k = after-kept c typed x (kept x t) in
     let y = after c x in
@@ -337,7 +337,7 @@ after-typed c typed x t =
     let whole : D (y .hda) =
     by-test (eqb (checkMachine x) 0)
     (λ e.
-    let v = after-valid c (typed .0) x (record { passes = eqb-true (checkMachine x) 0 e; sized = t .device .sized .regs; bytes = t .regs }) in
+    let v = after-valid c typed x (record { passes = eqb-true (checkMachine x) 0 e; sized = t .device .sized .regs; bytes = t .regs }) in
     (device-typed (y .hda) (y .lists) (passed (y .hda) (y .host) (y .lists) (length (y .queues)) (v .passes) .device) (v .sized) (k .device), v .bytes))
     (λ e. let same = refused-same x e c in (rw same (t .device), rw same (t .regs))) in
     record { device = whole .0; regs = whole .1; host = k .host; queues = k .queues; memory = k .memory }

@@ -10,19 +10,19 @@ use Rattle.stream.specs.declared.Stream.{Stream}
 use Rattle.stream.specs.Streams.{listSize}
 use Rattle.record.specs.Layout.{headSize, numbersSize}
 use Rattle.record.specs.Loads.{streamAt}
+use Rattle.calls.specs.Calls as calls
 use Rattle.reply.specs.Replies.{isMachine}
 use Rattle.port_device.specs.Calls.{Lent, lent, machineAt}
 use Rattle.lent_calls.specs.Calls.{Call, new, hostNew, on, callOf, after}
 use Rattle.book.specs.Book.{Book, Event, reset, restoredWith, notes}
 use Rattle.book.specs.Events as events
 use Rattle.book.specs.Events.{onlyIf}
-use Rattle.lent_book.specs.Typed.{TypedCall}
 
 -- what types say of a call's own bytes
 abbrev pub Typed : Call → Type 0
 Typed (new microphone) = Unit {0}
 Typed hostNew = Unit {0}
-Typed (on c) = TypedCall c
+Typed (on c) = calls.Typed c
 
 -- Between two calls nobody else writes the device's record and its lists. Host end, queues and guest memory may be any bytes at each call, of any length: so also where nobody else writes the queues.
 pub record Step : Type 0 where
