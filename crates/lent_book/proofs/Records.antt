@@ -1,6 +1,6 @@
 -- A call on bytes is the call on the machine in them: the records that it leaves hold the device and the host end that the definition gives, and bytes that are no records stay. Assumes
 -- nothing.
-use Prim.Native.Nat.{ℕ, _+_, _*_, _≤_}
+use Prim.Native.Nat.{ℕ, _+_}
 use mathlib.Core.Path.{_≡_, refl}
 use mathlib.Core.Bool.{Bool, true, false}
 use mathlib.Core.List.{List}
@@ -8,9 +8,7 @@ use native.Mathlib.Omega.{arith}
 use native.Mathlib.Nat.{zero-add}
 use lib.ListN.{length}
 use Rattle.word.specs.Value.{Bytes}
-use Rattle.word.proofs.Lists.{length-part}
 use Rattle.word.proofs.Place.{word-bound}
-use Rattle.codec.proofs.Bytes.{load-well-formed}
 use Rattle.stream.specs.Box.{streams}
 use Rattle.queue.specs.Queues.{closed}
 use Rattle.host.specs.declared.Host.{Host}
@@ -20,13 +18,13 @@ use Rattle.device.specs.Machines.{Machine, Done}
 use Rattle.write.specs.Writes.{writeOf}
 use Rattle.hda.specs.Calls.{barWriteOf, configWriteOf, pinOf}
 use Rattle.advance.specs.Advance.{advanceOf}
-use Rattle.record.specs.Layout.{deviceSize}
 use Rattle.record.specs.Rows.{rowOf}
 use Rattle.record.specs.Devices.{deviceBytes}
-use Rattle.record.specs.Loads.{streamAt, deviceAt, isDevice}
-use Rattle.record.specs.Typed.{TypedStream, TypedDevice}
+use Rattle.record.specs.Loads.{deviceAt, isDevice}
+use Rattle.record.specs.Typed.{TypedDevice}
 use Rattle.record.proofs.Places.{row-at}
-use Rattle.record.proofs.Theorems.{stream-loaded, device-stored, device-record}
+use Rattle.record.proofs.Replaced.{loaded-typed}
+use Rattle.record.proofs.Theorems.{device-stored, device-record}
 use Rattle.host_record.specs.Hosts.{hostSize, queuePlace, hostBytes, queueAt, hostAt, isHost}
 use Rattle.host_record.specs.Typed.{TypedHost}
 use Rattle.host_record.proofs.Theorems.{host-stored}
@@ -43,29 +41,6 @@ use Rattle.lent_book.proofs.Typed.{after-typed}
 
 -- ---- what is read out of bytes is typed
 module _ (b : List ℕ) (h : Bytes b) where
-  stream-typed : (at : ℕ) → at + 34 ≤ length b → TypedStream (streamAt at b)
-  stream-typed at fits =
-      record {
-        descriptor = word-bound 2 at b (omega arith) h;
-        offset = word-bound 4 (at + 2) b (omega arith) h;
-        submitted = word-bound 8 (at + 6) b (omega arith) h;
-        consumed = word-bound 8 (at + 14) b (omega arith) h;
-        fraction = word-bound 8 (at + 22) b (omega arith) h;
-        pending = word-bound 4 (at + 30) b (omega arith) h;
-      }
-
-  loaded-typed : length b ≡ deviceSize → TypedDevice (deviceAt b)
-  unfolding deviceAt rowOf
-  loaded-typed size =
-      record {
-        sized = record { config = length-part 256 6 b (omega arith); regs = length-part 256 262 b (omega arith); codec = load-well-formed 518 b (omega arith) h };
-        ticks = word-bound 8 662 b (omega arith) h;
-        fraction = word-bound 8 670 b (omega arith) h;
-        responses = word-bound 2 678 b (omega arith) h;
-        count = refl;
-        each = λ i few. rw (stream-loaded b i few) (stream-typed (680 + 34 * i) (omega arith));
-      }
-
   loaded-regs : Bytes (deviceAt b .regs)
   unfolding deviceAt
   loaded-regs = bytes-part 256 262 b h
@@ -86,7 +61,7 @@ pub record Ready (b : List ℕ) : Type 0 where
   pub regs : Bytes (deviceAt b .regs)
 
 pub bytes-ready : (b : List ℕ) → isDevice b ≡ true → Bytes b → Ready b
-bytes-ready b r h = record { there = r; typed = loaded-typed b h (device-length b r); regs = loaded-regs b h }
+bytes-ready b r h = record { there = r; typed = loaded-typed b (device-length b r) h; regs = loaded-regs b h }
 
 -- the record of a typed device
 pub stored-ready : (b : List ℕ) → (there : isDevice b ≡ true) → (x : Machine) → deviceAt b ≡ x .hda → TypedMachine x → Ready b

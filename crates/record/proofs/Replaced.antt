@@ -181,7 +181,7 @@ stream-typed b at fits h =
     }
 
 -- ---- the device in a record: what its bytes say of it
-loaded-typed : (b : List ℕ) → length b ≡ deviceSize → Bytes b → TypedDevice (deviceAt b)
+pub loaded-typed : (b : List ℕ) → length b ≡ deviceSize → Bytes b → TypedDevice (deviceAt b)
 unfolding deviceAt rowOf
 loaded-typed b size h =
     record {
