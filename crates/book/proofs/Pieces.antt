@@ -1,6 +1,6 @@
--- The pieces of a transfer keep a stream tied to the book, and where they stop the next one does not move. Assumes nothing.
+-- The pieces of a transfer keep a stream tied to the book, and where they stop the transfer stands still. Assumes nothing.
 use Prim.Native.Nat.{ℕ, _+_, _-_, _≤_, _<_}
-use mathlib.Core.Path.{_≡_, refl}
+use mathlib.Core.Path.{_≡_, refl, sym, subst}
 use mathlib.Core.Bool.{false, true≢false}
 use mathlib.Core.List.{List, append-nil}
 use native.Mathlib.Omega.{arith}
@@ -14,7 +14,7 @@ use Rattle.pieces.proofs.Plans.{plan-ok}
 use Rattle.pieces.proofs.Turns.{NextOk, pieces-by}
 use Rattle.pieces.proofs.Facts.{next-submitted, next-consumed}
 use Rattle.book.specs.Book.{Event, note}
-use Rattle.book.specs.Events.{planEvents, piecesEvents}
+use Rattle.book.specs.Events.{planEvents, piecesEvents, standingOf}
 use Rattle.book.proofs.Ghosts.{Ghost, sees, sees-append}
 use Rattle.book.proofs.Reasons.{moves}
 use Rattle.book.proofs.Tied.{Tied, tied-moved}
@@ -55,22 +55,25 @@ module _ (F : Type 0) (g : Cyclic) (count : ℕ) (byte : g .lvi ≤ 255) where
       rw (lt-ltb (x .done) count more, went, sees-append es (piecesEvents fuel g count (pieceOf g count x .state)) a)
       (rest (sees es a) (piece-tied x a more t)))
 
--- where the pieces stop, the next one does not move
+-- where the pieces stop, the transfer stands still, and the next piece does not move
 module _ (g : Cyclic) (count : ℕ) where
   abbrev Stuck : State → Type 0
   Stuck x = moves (planOf g (x .stream) (x .memory) (count - x .done)) ≡ false
 
-  stuck-by : (x : State) (p : Plan) → planOf g (x .stream) (x .memory) (count - x .done) ≡ p → doneOf g x p .ok ≡ false → Stuck (doneOf g x p .state)
+  -- a piece that does not move leaves all as it was
+  stuck-by : (x : State) (p : Plan) → planOf g (x .stream) (x .memory) (count - x .done) ≡ p → doneOf g x p .ok ≡ false → Stuck x × (doneOf g x p .state ≡ x)
   unfolding doneOf
-  stuck-by x Failed e stopped = rw e
-  stuck-by x Full e stopped = rw e
+  stuck-by x Failed e stopped = (rw e, refl)
+  stuck-by x Full e stopped = (rw e, refl)
   stuck-by x (Move at n end) e stopped = absurd (true≢false stopped)
 
-  pub pieces-stuck : (fuel : ℕ) (x : State) → piecesOf fuel g count x .ok ≡ false → Stuck (piecesOf fuel g count x .state)
-  unfolding pieceOf
+  pub pieces-stuck : (fuel : ℕ) (x : State) → let o = piecesOf fuel g count x in o .ok ≡ false → Stuck (o .state) × (standingOf fuel g count x ≡ o .state)
+  unfolding standingOf pieceOf
   pieces-stuck =
-      pieces-by g count (λ fuel x o. o .ok ≡ false → Stuck (o .state))
+      pieces-by g count (λ fuel x o. o .ok ≡ false → Stuck (o .state) × (standingOf fuel g count x ≡ o .state))
       (λ x stopped. absurd (true≢false stopped))
       (λ fuel x late stopped. absurd (true≢false stopped))
-      (λ fuel x more e stopped. stuck-by x (planOf g (x .stream) (x .memory) (count - x .done)) refl e)
-      (λ fuel x o more went rest. rest)
+      (λ fuel x more e stopped.
+      let k = stuck-by x (planOf g (x .stream) (x .memory) (count - x .done)) refl e in
+      (subst Stuck (sym (k .1)) (k .0), rw (lt-ltb (x .done) count more, e) (sym (k .1))))
+      (λ fuel x o more went rest stopped. let r = rest stopped in (r .0, rw (lt-ltb (x .done) count more, went) (r .1)))

@@ -17,7 +17,7 @@ use Rattle.stream.specs.Streams.{places, maxCount}
 use Rattle.plan.specs.Plans.{readyOf, endOf, placedOf, entryOf, fetchedOf, planOf}
 use Rattle.book.specs.Book.{Attempt, limit}
 use Rattle.book.specs.Reasons.{reasonsOf, anyOf, isReason, isLimit, isFlagged, placeOf, addressOf, lengthOf, pieceOf}
-use Rattle.book.specs.Events.{Given, attemptOf}
+use Rattle.book.specs.Events.{Given}
 
 -- the cyclic buffer by the registers that the book has
 abbrev pub bufferOf : Given → Cyclic
@@ -72,8 +72,9 @@ below : (m n : ℕ) → leb n m ≡ false → ltb m n ≡ true
 below m n e = lt-ltb m n (leb-false n m e)
 
 module _ (v : Given) (s : Stream) (m : List ℕ) (left : ℕ) where
-  abbrev attempt : Attempt
-  attempt = attemptOf v s m left
+  -- where a transfer stands that has `left` bytes to move
+  abbrev pub attempt : Attempt
+  attempt = record { base = v .base; cyclic = v .cyclic; last = v .last; index = s .descriptor; offset = s .offset; left = left; memory = m }
 
   clear-ready : Clear attempt (s .submitted) → readyOf (bufferOf v) ≡ true
   unfolding readyOf

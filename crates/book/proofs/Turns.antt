@@ -1,12 +1,12 @@
 -- A stream's turn keeps it tied to the book: the position update, a transfer, the rounds, the turn. Assumes nothing.
 use Prim.Native.Nat.{ℕ, zero, suc, _+_, _-_, _*_, _/_, _≤_, _<_, min}
 use mathlib.Core.Path.{_≡_, refl, sym, ap, subst, _∙_}
-use mathlib.Core.Bool.{Bool, true, false, not, _&&_, true≢false}
+use mathlib.Core.Bool.{Bool, true, false, cond, not, _&&_, true≢false}
 use mathlib.Core.List.{List, [], _∷_}
 use mathlib.Core.Logic.{_⊎_, inl, inr, ⊎-elim}
 use native.Mathlib.Omega.{arith}
-use borrow.Author.Tests.{leb-true, eqb-false}
-use lib.Dec.{leb, eqb}
+use borrow.Author.Tests.{leb-true, eqb-false, le-ltb}
+use lib.Dec.{leb, ltb, eqb}
 use lib.ListN.{length, length-set}
 use lib.Seq.{getD-set-same}
 use Rattle.word.proofs.Choices.{left, by-test, by-cond, by-both}
@@ -42,7 +42,7 @@ use Rattle.turn.specs.Turns.{openStreamOf, engineOf, Turn, formattedOf}
 use Rattle.turn.proofs.Facts.{frames-few, publish-by, transfer-queue, transfer-queued}
 use Rattle.turn.proofs.Validity.{open-stream-valid}
 use Rattle.book.specs.Book.{Event, updated, failed, refused}
-use Rattle.book.specs.Events.{onlyIf, Given, givenOf, piecesEvents, samplesOf, attemptOf, leftOf, failureEvents, transferEvents, unheard, updateEvent, roundEvents, againRounds, roundsEvents, timedEvents, servedEvents, formattedEvents}
+use Rattle.book.specs.Events.{onlyIf, Given, givenOf, piecesEvents, samplesOf, standingOf, attemptOf, failureEvents, transferEvents, unheard, updateEvent, roundEvents, againRounds, roundsEvents, timedEvents, servedEvents, formattedEvents}
 use Rattle.book.proofs.Ghosts.{Ghost, see, sees, sees-append}
 use Rattle.book.proofs.Tied.{Tied, tied-times, tied-refused, tied-failed, tied-updated}
 use Rattle.book.proofs.Reasons.{bufferOf, moves, Reasoned, unready-reasoned, unmoved-reasoned}
@@ -123,28 +123,33 @@ module _ (F : Type 0) where
         transfer-queue (g .cyclic) (e .stream) (e .queue) (g .connected) (g .left) (g .right) (x .list) (x .part) (x .memory) (4 * n) (Opened g) up up (λ pcm. up)
 
     -- a transfer that failed has its reason, by the book that the stream is tied to
-    founded-by : (s : Stream) (l m : List ℕ) (left : ℕ) (a : Ghost) → Tied F s l a → Reasoned v s m left → Tied F s l (see (failed (attemptOf v s m left)) a)
-    founded-by s l m left a t reason =
-        let pending : length (a .book .pending) ≡ s .pending = ap length (sym (t .pending)) ∙ length-positions (s .pending) l in
-        tied-failed F s l a (attemptOf v s m left) (rw (← t .submitted, pending) reason) t
+    founded-by : (count : ℕ) (x : State) (a : Ghost) → Tied F (x .stream) (x .list) a → Reasoned v (x .stream) (x .memory) (count - x .done)
+        → Tied F (x .stream) (x .list) (see (failed (attemptOf v count x)) a)
+    founded-by count x a t reason =
+        let pending : length (a .book .pending) ≡ x .stream .pending = ap length (sym (t .pending)) ∙ length-positions (x .stream .pending) (x .list) in
+        tied-failed F (x .stream) (x .list) a (attemptOf v count x) (rw (← t .submitted, pending) reason) t
 
     -- what the pieces of `count` bytes leave, with the failure where they stopped
     pieces-ended : (s : Stream) (l m pcm : List ℕ) (count : ℕ) (a : Ghost) → 0 < g .cyclic .cbl
         → let y = stateOf s l m pcm 0 in
         let o = piecesOf count (g .cyclic) count y in
         let z = o .state in
-        Tied F (z .stream) (z .list) a → Tied F (z .stream) (z .list) (sees (failureEvents v (o .ok) (z .stream) (z .memory) (leftOf s (z .stream) count)) a)
+        Tied F (z .stream) (z .list) a → Tied F (z .stream) (z .list) (sees (failureEvents v count s (o .ok) (z .stream) (standingOf count (g .cyclic) count y)) a)
     pieces-ended s l m pcm count a some t =
+        let c = g .cyclic in
         let y = stateOf s l m pcm 0 in
-        let o = piecesOf count (g .cyclic) count y in
+        let o = piecesOf count c count y in
         let z = o .state in
-        let left : leftOf s (z .stream) count ≡ count - z .done = let grown = pieces-submitted (g .cyclic) count count y in omega (arith, grown) in
         by-test (o .ok)
-        (λ ok. let none : leftOf s (z .stream) count ≡ 0 = let all = pieces-done (g .cyclic) count some count y (omega arith) (omega arith) ok in omega (arith, left, all) in rw (ok, none) t)
-        (λ stopped. rw (stopped, left)
-        (founded-by (z .stream) (z .list) (z .memory) (count - z .done) a t
+        (λ ok. let all : ltb (z .stream .submitted) (s .submitted + count) ≡ false =
+        le-ltb (z .stream .submitted) (s .submitted + count)
+        (omega (arith, pieces-submitted c count count y, pieces-done c count some count y (omega arith) (omega arith) ok)) in
+        rw (ok, all) t)
+        (λ stopped. let k = pieces-stuck c count count y stopped in
+        rw (stopped, k .1)
+        (founded-by count z a t
         (unmoved-reasoned v (z .stream) (z .memory) (count - z .done)
-        (subst (λ (c : Cyclic). moves (planOf c (z .stream) (z .memory) (count - z .done)) ≡ false) buffered (pieces-stuck (g .cyclic) count count y stopped)))))
+        (subst (λ (c : Cyclic). moves (planOf c (z .stream) (z .memory) (count - z .done)) ≡ false) buffered (k .0)))))
 
     -- a transfer
     moved-still : (x : Work) (n : ℕ) (a : Ghost) → n ≤ 256 → Still F (x .engine .stream) (x .engine .queue) (x .list) a
@@ -158,25 +163,26 @@ module _ (F : Type 0) where
         let q = e .queue in
         let count = 4 * n in
         let start : List ℕ → State = λ pcm. stateOf s (x .list) (x .memory) pcm 0 in
-        let ended : Transfer → List Event = λ t. failureEvents v (t .transferred .ok) (t .transferred .stream) (t .memory) (leftOf s (t .transferred .stream) count) in
-        let P : Transfer → List Event → Type 0 = λ t es. Tied F (t .transferred .stream) (t .list) (sees (ended t) (sees es a)) in
-        let Q : Transfer → List ℕ → Type 0 = λ t pcm. P t (piecesEvents count c count (start pcm)) in
+        let ended : Transfer → State → List Event = λ t y. failureEvents v count s (t .transferred .ok) (t .transferred .stream) y in
+        let P : Transfer → List Event → State → Type 0 = λ t es y. Tied F (t .transferred .stream) (t .list) (sees (ended t y) (sees es a)) in
+        let Q : Transfer → List ℕ → Type 0 = λ t pcm. P t (piecesEvents count c count (start pcm)) (standingOf count c count (start pcm)) in
         let taken = takenOf (g .connected) q (x .part) count in
         let sound = capturedOf (g .connected) (g .left) (g .right) (x .part) taken count in
         let o = piecesOf count c count (start (silence count)) in
         record {
-          tied = rw (sees-append (onlyIf (readyOf c) (piecesEvents count c count (start (samplesOf c q (g .connected) (g .left) (g .right) (x .part) count)))) (ended (transferAt g x n)) a)
-              (by-both P (readyOf c) _ (transferOut false false s q (x .list) (x .part) (x .memory)) _ []
-              (λ ready.
+          tied = let begun = start (samplesOf c q (g .connected) (g .left) (g .right) (x .part) count) in
+              rw (sees-append (onlyIf (readyOf c) (piecesEvents count c count begun)) (ended (transferAt g x n) (cond (readyOf c) (standingOf count c count begun) begun)) a)
+              (by-test (readyOf c)
+              (λ ready. rw ready (
               let each : (pcm : List ℕ) → let z = piecesOf count c count (start pcm) in Q (withPieces z q (x .part)) pcm =
               λ pcm. pieces-ended s (x .list) (x .memory) pcm count (sees (piecesEvents count c count (start pcm)) a) (ready-cyclic c ready)
               (pieces-tied F c count (ready-byte c ready) count (start pcm) a (record { tied = h .tied; room = λ f. omega (arith, room f) }) .tied) in
               by-both Q (c .capture) (captureOf c s q (g .connected) (g .left) (g .right) (x .list) (x .part) (x .memory) count)
               (playbackOf c s q (g .connected) (g .left) (g .right) (x .list) (x .part) (x .memory) count) sound (silence count)
               (λ _. each sound)
-              (λ _. by-cond (λ t. Q t (silence count)) (o .ok) _ (withPieces o q (x .part)) (λ _. each (silence count)) (λ _. each (silence count))))
-              (λ unready. founded-by s (x .list) (x .memory) (leftOf s s count) a (h .tied)
-              (unready-reasoned v s (x .memory) (leftOf s s count) (ap readyOf (sym buffered) ∙ unready))));
+              (λ _. by-cond (λ t. Q t (silence count)) (o .ok) _ (withPieces o q (x .part)) (λ _. each (silence count)) (λ _. each (silence count)))))
+              (λ unready. rw unready
+              (founded-by count begun a (h .tied) (unready-reasoned v s (x .memory) (count - 0) (ap readyOf (sym buffered) ∙ unready)))));
           queued = transfer-queued c s q (g .connected) (g .left) (g .right) (x .list) (x .part) (x .memory) count (h .queued);
         }
 

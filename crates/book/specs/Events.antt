@@ -90,26 +90,36 @@ abbrev pub samplesOf : Cyclic → Queue → Bool → ℕ → ℕ → List ℕ �
 samplesOf g q connected left right part count =
     cond (g .capture) (capturedOf connected left right part (takenOf connected q part count) count) (silence count)
 
--- where a transfer stands that has `left` bytes to move
-abbrev pub attemptOf : Given → Stream → List ℕ → ℕ → Attempt
-attemptOf v s m left =
-    record { base = v .base; cyclic = v .cyclic; last = v .last; index = s .descriptor; offset = s .offset; left = left; memory = m }
+-- the state in which a transfer stands still: before the first piece that does not move, or behind the last
+unfoldable pub standingOf : ℕ → Cyclic → ℕ → State → State
+standingOf zero g count x = x
+standingOf (suc fuel) g count x = cond (ltb (x .done) count && pieceOf g count x .ok) (standingOf fuel g count (pieceOf g count x .state)) x
 
--- It failed where the device says so, and where submitted has not grown by all its bytes, by whatever name the device calls that.
-abbrev pub leftOf : Stream → Stream → ℕ → ℕ
-leftOf before after count = count - (after .submitted - before .submitted)
+abbrev pub attemptOf : Given → ℕ → State → Attempt
+attemptOf v count x =
+    record {
+      base = v .base;
+      cyclic = v .cyclic;
+      last = v .last;
+      index = x .stream .descriptor;
+      offset = x .stream .offset;
+      left = count - x .done;
+      memory = x .memory;
+    }
 
-abbrev pub failureEvents : Given → Bool → Stream → List ℕ → ℕ → List Event
-failureEvents v ok s m left = onlyIf (not ok || ltb 0 left) (failed (attemptOf v s m left) ∷ [])
+-- A transfer has failed where the device says so, and where submitted has not grown by all its bytes, by whatever name the device calls that; `x` is where it stands still.
+abbrev pub failureEvents : Given → ℕ → Stream → Bool → Stream → State → List Event
+failureEvents v count before ok after x =
+    onlyIf (not ok || ltb (after .submitted) (before .submitted + count)) (failed (attemptOf v count x) ∷ [])
 
 unfoldable pub transferEvents : Given → Setup → Work → ℕ → List Event
 transferEvents v g x n =
     let c = g .cyclic in
     let e = x .engine in
-    let t = transferAt g x n in
-    let pcm = samplesOf c (e .queue) (g .connected) (g .left) (g .right) (x .part) (4 * n) in
-    onlyIf (readyOf c) (piecesEvents (4 * n) c (4 * n) (stateOf (e .stream) (x .list) (x .memory) pcm 0))
-    ++ failureEvents v (t .transferred .ok) (t .transferred .stream) (t .memory) (leftOf (e .stream) (t .transferred .stream) (4 * n))
+    let t = transferAt g x n .transferred in
+    let count = 4 * n in
+    let s = stateOf (e .stream) (x .list) (x .memory) (samplesOf c (e .queue) (g .connected) (g .left) (g .right) (x .part) count) 0 in
+    onlyIf (readyOf c) (piecesEvents count c count s) ++ failureEvents v count (e .stream) (t .ok) (t .stream) (cond (readyOf c) (standingOf count c count s) s)
 
 -- ---- a turn: the position update at its start, then transfers, each with an update where it succeeded
 -- document 01's latency: none for a capture; for a playback the bytes queued and those downstream
