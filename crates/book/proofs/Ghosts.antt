@@ -1,15 +1,16 @@
 -- The book beside whether 4,352 positions have ever stood pending, and whether a transfer has ever failed for no reason: what all three are after a list of events. Assumes nothing.
-use Prim.Native.Nat.{ℕ, _+_, _<_}
+use Prim.Native.Nat.{ℕ, _<_}
 use mathlib.Core.Path.{_≡_, refl}
 use mathlib.Core.Bool.{Bool, false, not, _&&_, _||_}
 use mathlib.Core.List.{List, [], _∷_, _++_}
 use native.Mathlib.Omega.{arith}
 use borrow.Author.Tests.{not-false, leb-true, leb-false, lt-leb}
-use lib.Dec.{eqb, leb}
+use lib.Dec.{leb}
 use lib.ListN.{length}
 use Rattle.word.proofs.Choices.{neither, by-either, right}
 use Rattle.book.specs.Book.{Book, Event, reset, restored, moved, updated, failed, refused, limit, note, notes}
-use Rattle.book.specs.Reasons.{lengthOf, isFlagged, pieceOf, isReason, isLimit, isFounded, isUnlimited, Tested, Failures}
+use Rattle.book.specs.Buffers.{isFlagged, isEnd}
+use Rattle.book.specs.Reasons.{isLimit, isFounded, isUnlimited, Tested, Failures}
 use Rattle.book.specs.Claim.{Few}
 
 pub record Ghost : Type 0 where
@@ -26,8 +27,8 @@ isFull pending full = leb limit (length pending) || full
 -- a transfer that fails for no reason
 abbrev pub isGroundless : Event → Book → Bool
 isGroundless reset b = false
-isGroundless (restored submitted consumed positions) b = false
-isGroundless (moved n flagged) b = false
+isGroundless (restored submitted consumed positions index offset) b = false
+isGroundless (moved a) b = false
 isGroundless (updated latency) b = false
 isGroundless (failed a) b = not (isFounded a b)
 isGroundless refused b = false
@@ -69,8 +70,8 @@ always (e ∷ es) a h = neither (isGroundless e (a .book)) (a .groundless) (alwa
 
 tested : (e : Event) (b : Book) → isGroundless e b ≡ false → Tested isFounded e b
 tested reset b h = tt
-tested (restored submitted consumed positions) b h = tt
-tested (moved n flagged) b h = tt
+tested (restored submitted consumed positions index offset) b h = tt
+tested (moved a) b h = tt
 tested (updated latency) b h = tt
 tested (failed a) b h = not-false (isFounded a b) h
 tested refused b h = tt
@@ -84,14 +85,13 @@ founded-seen (e ∷ es) a h =
 unlimited : (e : Event) (b : Book) → length (b .pending) < limit → Tested isFounded e b → Tested isUnlimited e b
 unfolding isLimit
 unlimited reset b few h = tt
-unlimited (restored submitted consumed positions) b few h = tt
-unlimited (moved n flagged) b few h = tt
+unlimited (restored submitted consumed positions index offset) b few h = tt
+unlimited (moved a) b few h = tt
 unlimited (updated latency) b few h = tt
 unlimited (failed a) b few h =
     let many = leb limit (length (b .pending)) in
-    by-either (isReason a (b .submitted)) (isLimit a (b .submitted) (length (b .pending))) (λ e. e)
-    (λ e. let ends = eqb (a .offset + pieceOf a (b .submitted)) (lengthOf a) in
-    absurd (omega (arith, few, leb-true limit (length (b .pending)) (right (isFlagged a) many (right ends (isFlagged a && many) e)))))
+    by-either (isUnlimited a b) (isLimit a (b .index) (b .offset) (b .submitted) (length (b .pending))) (λ e. e)
+    (λ e. absurd (omega (arith, few, leb-true limit (length (b .pending)) (right (isFlagged a (b .index)) many (right (isEnd a (b .index) (b .offset) (b .submitted)) (isFlagged a (b .index) && many) e)))))
     h
 unlimited refused b few h = tt
 

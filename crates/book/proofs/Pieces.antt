@@ -2,7 +2,7 @@
 use Prim.Native.Nat.{ℕ, _+_, _-_, _≤_, _<_}
 use mathlib.Core.Path.{_≡_, refl, sym, subst}
 use mathlib.Core.Bool.{false, true≢false}
-use mathlib.Core.List.{List, append-nil}
+use mathlib.Core.List.{[], _∷_}
 use native.Mathlib.Omega.{arith}
 use borrow.Author.Tests.{lt-ltb, le-ltb}
 use Rattle.stream.specs.declared.Cyclic.{Cyclic}
@@ -13,10 +13,10 @@ use Rattle.pieces.specs.Pieces.{State, doneOf, pieceOf, piecesOf}
 use Rattle.pieces.proofs.Plans.{plan-ok}
 use Rattle.pieces.proofs.Turns.{NextOk, pieces-by}
 use Rattle.pieces.proofs.Facts.{next-submitted, next-consumed}
-use Rattle.book.specs.Book.{Event, note}
-use Rattle.book.specs.Events.{planEvents, piecesEvents, standingOf}
-use Rattle.book.proofs.Ghosts.{Ghost, sees, sees-append}
-use Rattle.book.proofs.Reasons.{moves}
+use Rattle.book.specs.Book.{moved}
+use Rattle.book.specs.Events.{onlyIf, Given, attemptOf, piecesEvents, standingOf}
+use Rattle.book.proofs.Ghosts.{Ghost, see, sees}
+use Rattle.book.proofs.Reasons.{bufferOf, moves, Says, plan-says}
 use Rattle.book.proofs.Tied.{Tied, tied-moved}
 
 -- a stream in a period that ends at most 16,384 bytes ahead of what is heard
@@ -24,36 +24,35 @@ pub record Going (F : Type 0) (count : ℕ) (x : State) (a : Ghost) : Type 0 whe
   pub tied : Tied F (x .stream) (x .list) a
   pub room : F → x .stream .submitted + (count - x .done) ≤ x .stream .consumed + 16384
 
-module _ (F : Type 0) (g : Cyclic) (count : ℕ) (byte : g .lvi ≤ 255) where
-  plan-tied : (x : State) (a : Ghost) → x .done < count → Going F count x a → (p : Plan) → NextOk g count x p
-      → Going F count (doneOf g x p .state) (sees (planEvents p) a)
-  unfolding doneOf note
-  plan-tied x a more t Failed k = t
-  plan-tied x a more t Full k = t
-  plan-tied x a more t (Move at n end) k =
+module _ (F : Type 0) (v : Given) (g : Cyclic) (buffered : g ≡ bufferOf v) (count : ℕ) (byte : g .lvi ≤ 255) where
+  plan-tied : (x : State) (a : Ghost) → x .done < count → Going F count x a → (p : Plan) → NextOk g count x p → Says v (x .stream) (x .memory) (count - x .done) p
+      → let o = doneOf g x p in Going F count (o .state) (sees (onlyIf (o .ok) (moved (attemptOf v count x) ∷ [])) a)
+  unfolding doneOf
+  plan-tied x a more t Failed k says = t
+  plan-tied x a more t Full k says = t
+  plan-tied x a more t (Move at n end) k says =
       record {
-        tied = tied-moved F g count byte x a at n end more k (λ f. omega (arith, t .room f, k .few)) (t .tied);
+        tied = tied-moved F v g buffered count byte x a at n end more k says (λ f. omega (arith, t .room f, k .few)) (t .tied);
         room = λ f. omega (arith, t .room f, k .few, next-submitted (x .stream) (g .lvi) n end, next-consumed (x .stream) (g .lvi) n end);
       }
 
   piece-tied : (x : State) (a : Ghost) → x .done < count → Going F count x a
-      → Going F count (pieceOf g count x .state) (sees (planEvents (planOf g (x .stream) (x .memory) (count - x .done))) a)
+      → let o = pieceOf g count x in Going F count (o .state) (sees (onlyIf (o .ok) (moved (attemptOf v count x) ∷ [])) a)
   unfolding pieceOf
   piece-tied x a more t =
-      plan-tied x a more t (planOf g (x .stream) (x .memory) (count - x .done)) (plan-ok g (x .stream) (x .memory) (count - x .done))
+      let left = count - x .done in
+      plan-tied x a more t (planOf g (x .stream) (x .memory) left) (plan-ok g (x .stream) (x .memory) left)
+      (subst (λ (h : Cyclic). Says v (x .stream) (x .memory) left (planOf h (x .stream) (x .memory) left)) (sym buffered) (plan-says v (x .stream) (x .memory) left))
 
-  pub pieces-tied : (fuel : ℕ) (x : State) (a : Ghost) → Going F count x a → Going F count (piecesOf fuel g count x .state) (sees (piecesEvents fuel g count x) a)
+  pub pieces-tied : (fuel : ℕ) (x : State) (a : Ghost) → Going F count x a → Going F count (piecesOf fuel g count x .state) (sees (piecesEvents v fuel g count x) a)
   unfolding piecesEvents
   pieces-tied =
-      pieces-by g count (λ fuel x o. (a : Ghost) → Going F count x a → Going F count (o .state) (sees (piecesEvents fuel g count x) a))
+      pieces-by g count (λ fuel x o. (a : Ghost) → Going F count x a → Going F count (o .state) (sees (piecesEvents v fuel g count x) a))
       (λ x a t. t)
       (λ fuel x late a t. rw (le-ltb (x .done) count late) t)
-      (λ fuel x more stopped a t.
-      rw (lt-ltb (x .done) count more, stopped, append-nil (planEvents (planOf g (x .stream) (x .memory) (count - x .done)))) (piece-tied x a more t))
+      (λ fuel x more stopped a t. rw (lt-ltb (x .done) count more, stopped) (rw stopped at (piece-tied x a more t)))
       (λ fuel x o more went rest a t.
-      let es : List Event = planEvents (planOf g (x .stream) (x .memory) (count - x .done)) in
-      rw (lt-ltb (x .done) count more, went, sees-append es (piecesEvents fuel g count (pieceOf g count x .state)) a)
-      (rest (sees es a) (piece-tied x a more t)))
+      rw (lt-ltb (x .done) count more, went) (rest (see (moved (attemptOf v count x)) a) (rw went at (piece-tied x a more t))))
 
 -- where the pieces stop, the transfer stands still, and the next piece does not move
 module _ (g : Cyclic) (count : ℕ) where

@@ -11,17 +11,31 @@ use Rattle.memory.specs.declared.Fetched.the-variants.{Outside}
 use Rattle.memory.specs.Memory.{entryAt, descriptorOf}
 use Rattle.stream.specs.declared.Stream.{Stream}
 use Rattle.stream.specs.declared.Cyclic.{Cyclic}
+use Rattle.plan.specs.declared.End.{End}
+use Rattle.plan.specs.declared.End.the-variants.{Inside, Plain, Flagged}
 use Rattle.plan.specs.declared.Plan.{Plan}
 use Rattle.plan.specs.declared.Plan.the-variants.{Failed, Full, Move}
 use Rattle.stream.specs.Streams.{places, maxCount}
 use Rattle.plan.specs.Plans.{readyOf, endOf, placedOf, entryOf, fetchedOf, planOf}
-use Rattle.book.specs.Book.{Attempt, limit}
-use Rattle.book.specs.Reasons.{reasonsOf, anyOf, isReason, isLimit, isFlagged, placeOf, addressOf, lengthOf, pieceOf}
+use Rattle.book.specs.Buffers.{Attempt, placeOf, addressOf, lengthOf, isFlagged, bytesOf, isEnd}
+use Rattle.book.specs.Book.{limit}
+use Rattle.book.specs.Reasons.{reasonsOf, anyOf, isReason, isLimit}
 use Rattle.book.specs.Events.{Given}
 
 -- the cyclic buffer by the registers that the book has
 abbrev pub bufferOf : Given → Cyclic
 bufferOf v = record { capture = v .capture; bdl = v .base; lvi = v .last; cbl = v .cyclic }
+
+-- whether a piece ends its descriptor, and a flagged one
+abbrev pub endsOf : End → Bool
+endsOf Inside = false
+endsOf Plain = true
+endsOf Flagged = true
+
+abbrev pub flaggedOf : End → Bool
+flaggedOf Inside = false
+flaggedOf Plain = false
+flaggedOf Flagged = true
 
 abbrev pub moves : Plan → Bool
 moves Failed = false
@@ -29,17 +43,17 @@ moves Full = false
 moves (Move at n end) = true
 
 -- no reason holds
-record Clear (a : Attempt) (submitted : ℕ) : Type 0 where
+record Clear (a : Attempt) (index offset submitted : ℕ) : Type 0 where
   some : eqb (a .cyclic) 0 ≡ false
   whole : eqb (a .cyclic % 4) 0 ≡ true
   byte : ltb 255 (a .last) ≡ false
-  listed : ltb (a .last) (a .index) ≡ false
-  there : ltb (length (a .memory)) (placeOf a + 16) ≡ false
-  long : eqb (lengthOf a) 0 ≡ false
-  even : eqb (lengthOf a % 4) 0 ≡ true
-  inside : leb (lengthOf a) (a .offset) ≡ false
-  held : ltb (length (a .memory)) (addressOf a + (a .offset + pieceOf a submitted)) ≡ false
-  counted : ltb 0xffff_ffff_ffff_ffff (submitted + pieceOf a submitted) ≡ false
+  listed : ltb (a .last) index ≡ false
+  there : ltb (length (a .memory)) (placeOf a index + 16) ≡ false
+  long : eqb (lengthOf a index) 0 ≡ false
+  even : eqb (lengthOf a index % 4) 0 ≡ true
+  inside : leb (lengthOf a index) offset ≡ false
+  held : ltb (length (a .memory)) (addressOf a index + (offset + bytesOf a index offset submitted)) ≡ false
+  counted : ltb 0xffff_ffff_ffff_ffff (submitted + bytesOf a index offset submitted) ≡ false
 
 -- none of several tests holds: so not the one with this number
 none-of : (ts : List Bool) → anyOf ts ≡ false → (k : ℕ) → getD ts k false ≡ false
@@ -47,10 +61,10 @@ none-of [] e k = refl
 none-of (t ∷ ts) e zero = neither t (anyOf ts) e .0
 none-of (t ∷ ts) e (suc k) = none-of ts (neither t (anyOf ts) e .1) k
 
-clear : (a : Attempt) (submitted : ℕ) → isReason a submitted ≡ false → Clear a submitted
+clear : (a : Attempt) (index offset submitted : ℕ) → isReason a index offset submitted ≡ false → Clear a index offset submitted
 unfolding isReason
-clear a submitted e =
-    let none = none-of (reasonsOf a submitted) e in
+clear a index offset submitted e =
+    let none = none-of (reasonsOf a index offset submitted) e in
     record {
       some = none 0;
       whole = not-false _ (none 1);
@@ -74,47 +88,47 @@ below m n e = lt-ltb m n (leb-false n m e)
 module _ (v : Given) (s : Stream) (m : List ℕ) (left : ℕ) where
   -- where a transfer stands that has `left` bytes to move
   abbrev pub attempt : Attempt
-  attempt = record { base = v .base; cyclic = v .cyclic; last = v .last; index = s .descriptor; offset = s .offset; left = left; memory = m }
+  attempt = record { base = v .base; cyclic = v .cyclic; last = v .last; left = left; memory = m }
 
-  clear-ready : Clear attempt (s .submitted) → readyOf (bufferOf v) ≡ true
+  clear-ready : Clear attempt (s .descriptor) (s .offset) (s .submitted) → readyOf (bufferOf v) ≡ true
   unfolding readyOf
   clear-ready c = rw (c .some, c .whole, at-most (v .last) 255 (c .byte))
 
-  module _ (unlimited : isLimit attempt (s .submitted) (s .pending) ≡ false) where
+  module _ (unlimited : isLimit attempt (s .descriptor) (s .offset) (s .submitted) (s .pending) ≡ false) where
     -- a flagged end finds a place
-    clear-end : moves (endOf s (entryAt m (placeOf attempt)) (pieceOf attempt (s .submitted))) ≡ true
+    clear-end : moves (endOf s (entryAt m (placeOf attempt (s .descriptor))) (bytesOf attempt (s .descriptor) (s .offset) (s .submitted))) ≡ true
     unfolding endOf entryAt isLimit
     clear-end =
         let P : Plan → Type 0 = λ p. moves p ≡ true in
-        by-cond P (eqb (s .offset + pieceOf attempt (s .submitted)) (lengthOf attempt)) _ _
-        (λ ends. by-cond P (isFlagged attempt) _ _
+        by-cond P (eqb (s .offset + bytesOf attempt (s .descriptor) (s .offset) (s .submitted)) (lengthOf attempt (s .descriptor))) _ _
+        (λ ends. by-cond P (isFlagged attempt (s .descriptor)) _ _
         (λ flagged. by-cond P (ltb (s .pending) places) _ _ (λ _. refl)
-        (λ none. let limited : isLimit attempt (s .submitted) (s .pending) ≡ true = rw (ends, flagged, le-leb limit (s .pending) (ltb-false (s .pending) places none)) in
+        (λ none. let limited : isLimit attempt (s .descriptor) (s .offset) (s .submitted) (s .pending) ≡ true = rw (ends, flagged, le-leb limit (s .pending) (ltb-false (s .pending) places none)) in
         absurd (true≢false (sym limited ∙ unlimited))))
         (λ _. refl))
         (λ _. refl)
 
-    clear-moves : Clear attempt (s .submitted) → moves (planOf (bufferOf v) s m left) ≡ true
+    clear-moves : Clear attempt (s .descriptor) (s .offset) (s .submitted) → moves (planOf (bufferOf v) s m left) ≡ true
     unfolding planOf descriptorOf entryOf placedOf entryAt
     clear-moves c =
         rw (
           c .listed,
-          at-most (placeOf attempt + 16) (length m) (c .there),
+          at-most (placeOf attempt (s .descriptor) + 16) (length m) (c .there),
           c .long,
           c .even,
-          below (s .offset) (lengthOf attempt) (c .inside),
-          at-most (addressOf attempt + (s .offset + pieceOf attempt (s .submitted))) (length m) (c .held),
-          at-most (s .submitted + pieceOf attempt (s .submitted)) maxCount (c .counted),
+          below (s .offset) (lengthOf attempt (s .descriptor)) (c .inside),
+          at-most (addressOf attempt (s .descriptor) + (s .offset + bytesOf attempt (s .descriptor) (s .offset) (s .submitted))) (length m) (c .held),
+          at-most (s .submitted + bytesOf attempt (s .descriptor) (s .offset) (s .submitted)) maxCount (c .counted),
         ) clear-end
 
   -- by contradiction: where nothing speaks against it the buffer is taken, and the piece moves
   abbrev pub Reasoned : Type 0
-  Reasoned = isReason attempt (s .submitted) || isLimit attempt (s .submitted) (s .pending) ≡ true
+  Reasoned = isReason attempt (s .descriptor) (s .offset) (s .submitted) || isLimit attempt (s .descriptor) (s .offset) (s .submitted) (s .pending) ≡ true
 
-  reasoned : (Clear attempt (s .submitted) → isLimit attempt (s .submitted) (s .pending) ≡ false → ⊥) → Reasoned
+  reasoned : (Clear attempt (s .descriptor) (s .offset) (s .submitted) → isLimit attempt (s .descriptor) (s .offset) (s .submitted) (s .pending) ≡ false → ⊥) → Reasoned
   reasoned none =
-      by-test (isReason attempt (s .submitted) || isLimit attempt (s .submitted) (s .pending)) (λ e. e)
-      (λ e. let n = neither (isReason attempt (s .submitted)) (isLimit attempt (s .submitted) (s .pending)) e in absurd (none (clear attempt (s .submitted) (n .0)) (n .1)))
+      by-test (isReason attempt (s .descriptor) (s .offset) (s .submitted) || isLimit attempt (s .descriptor) (s .offset) (s .submitted) (s .pending)) (λ e. e)
+      (λ e. let n = neither (isReason attempt (s .descriptor) (s .offset) (s .submitted)) (isLimit attempt (s .descriptor) (s .offset) (s .submitted) (s .pending)) e in absurd (none (clear attempt (s .descriptor) (s .offset) (s .submitted) (n .0)) (n .1)))
 
   pub unready-reasoned : readyOf (bufferOf v) ≡ false → Reasoned
   unready-reasoned e = reasoned (λ c _. true≢false (sym (clear-ready c) ∙ e))
@@ -124,7 +138,7 @@ module _ (v : Given) (s : Stream) (m : List ℕ) (left : ℕ) where
 
   -- ---- and the other way round: where the buffer is taken and the piece moves, nothing speaks against it
   abbrev Reason : Bool
-  Reason = isReason attempt (s .submitted) || isLimit attempt (s .submitted) (s .pending)
+  Reason = isReason attempt (s .descriptor) (s .offset) (s .submitted) || isLimit attempt (s .descriptor) (s .offset) (s .submitted) (s .pending)
 
   abbrev Quiet : Plan → Type 0
   Quiet p = moves p ≡ true → Reason ≡ false
@@ -135,31 +149,31 @@ module _ (v : Given) (s : Stream) (m : List ℕ) (left : ℕ) where
   taken-quiet : eqb (v .cyclic) 0 ≡ false → eqb (v .cyclic % 4) 0 ≡ true → leb (v .last) 255 ≡ true → Quiet (planOf (bufferOf v) s m left)
   unfolding planOf descriptorOf entryAt entryOf placedOf endOf isReason isLimit
   taken-quiet some whole byte =
-      let n = pieceOf attempt (s .submitted) in
+      let n = bytesOf attempt (s .descriptor) (s .offset) (s .submitted) in
       let size = length m in
       by-cond Quiet (ltb (v .last) (s .descriptor)) Failed _ (λ _. stops)
-      (λ listed. by-cond (λ f. Quiet (fetchedOf (bufferOf v) s size left f)) (leb (placeOf attempt + 16) size) _ Outside
-      (λ there. by-cond Quiet (eqb (lengthOf attempt) 0) Failed _ (λ _. stops)
-      (λ long. by-cond Quiet (eqb (lengthOf attempt % 4) 0) _ Failed
-      (λ even. by-cond Quiet (ltb (s .offset) (lengthOf attempt)) _ Failed
-      (λ inside. by-cond Quiet (leb (addressOf attempt + (s .offset + n)) size) _ Failed
+      (λ listed. by-cond (λ f. Quiet (fetchedOf (bufferOf v) s size left f)) (leb (placeOf attempt (s .descriptor) + 16) size) _ Outside
+      (λ there. by-cond Quiet (eqb (lengthOf attempt (s .descriptor)) 0) Failed _ (λ _. stops)
+      (λ long. by-cond Quiet (eqb (lengthOf attempt (s .descriptor) % 4) 0) _ Failed
+      (λ even. by-cond Quiet (ltb (s .offset) (lengthOf attempt (s .descriptor))) _ Failed
+      (λ inside. by-cond Quiet (leb (addressOf attempt (s .descriptor) + (s .offset + n)) size) _ Failed
       (λ held. by-cond Quiet (leb (s .submitted + n) maxCount) _ Failed
       (λ counted.
-      let free : isReason attempt (s .submitted) ≡ false =
+      let free : isReason attempt (s .descriptor) (s .offset) (s .submitted) ≡ false =
       rw (
         some,
         whole,
         le-ltb 255 (v .last) (leb-true (v .last) 255 byte),
         listed,
-        le-ltb size (placeOf attempt + 16) (leb-true (placeOf attempt + 16) size there),
+        le-ltb size (placeOf attempt (s .descriptor) + 16) (leb-true (placeOf attempt (s .descriptor) + 16) size there),
         long,
         even,
-        lt-leb (lengthOf attempt) (s .offset) (ltb-true (s .offset) (lengthOf attempt) inside),
-        le-ltb size (addressOf attempt + (s .offset + n)) (leb-true (addressOf attempt + (s .offset + n)) size held),
+        lt-leb (lengthOf attempt (s .descriptor)) (s .offset) (ltb-true (s .offset) (lengthOf attempt (s .descriptor)) inside),
+        le-ltb size (addressOf attempt (s .descriptor) + (s .offset + n)) (leb-true (addressOf attempt (s .descriptor) + (s .offset + n)) size held),
         le-ltb maxCount (s .submitted + n) (leb-true (s .submitted + n) maxCount counted),
       ) in
-      by-cond Quiet (eqb (s .offset + n) (lengthOf attempt)) _ _
-      (λ ends. by-cond Quiet (isFlagged attempt) _ _
+      by-cond Quiet (eqb (s .offset + n) (lengthOf attempt (s .descriptor))) _ _
+      (λ ends. by-cond Quiet (isFlagged attempt (s .descriptor)) _ _
       (λ flagged. by-cond Quiet (ltb (s .pending) places) _ Full
       (λ room _. rw (free, ends, flagged, lt-leb limit (s .pending) (ltb-true (s .pending) places room))) (λ _ e. absurd (true≢false (sym e))))
       (λ plain _. rw (free, ends, plain)))
@@ -179,3 +193,30 @@ module _ (v : Given) (s : Stream) (m : List ℕ) (left : ℕ) where
       by-test (readyOf (bufferOf v))
       (λ ready. by-test (moves (planOf (bufferOf v) s m left)) (λ moved. rw (ready, moved) (ready-quiet ready moved)) (λ stopped. rw (ready, stopped) (unmoved-reasoned stopped)))
       (λ unready. rw unready (unready-reasoned unready))
+
+  -- ---- what a piece that moves is: its bytes, whether it ends its descriptor, and whether that end is flagged
+  abbrev pub Says : Plan → Type 0
+  Says Failed = Unit {0}
+  Says Full = Unit {0}
+  Says (Move at n end) =
+      let ended = isEnd attempt (s .descriptor) (s .offset) (s .submitted) in
+      (n ≡ bytesOf attempt (s .descriptor) (s .offset) (s .submitted)) × (ended ≡ endsOf end) × (ended && isFlagged attempt (s .descriptor) ≡ flaggedOf end)
+
+  pub plan-says : Says (planOf (bufferOf v) s m left)
+  unfolding planOf descriptorOf entryAt entryOf placedOf endOf
+  plan-says =
+      let size = length m in
+      let n = bytesOf attempt (s .descriptor) (s .offset) (s .submitted) in
+      by-cond Says (ltb (v .last) (s .descriptor)) Failed _ (λ _. tt)
+      (λ _. by-cond (λ f. Says (fetchedOf (bufferOf v) s size left f)) (leb (placeOf attempt (s .descriptor) + 16) size) _ Outside
+      (λ _. by-cond Says (eqb (lengthOf attempt (s .descriptor)) 0) Failed _ (λ _. tt)
+      (λ _. by-cond Says (eqb (lengthOf attempt (s .descriptor) % 4) 0) _ Failed
+      (λ _. by-cond Says (ltb (s .offset) (lengthOf attempt (s .descriptor))) _ Failed
+      (λ _. by-cond Says (leb (addressOf attempt (s .descriptor) + (s .offset + n)) size) _ Failed
+      (λ _. by-cond Says (leb (s .submitted + n) maxCount) _ Failed
+      (λ _. by-cond Says (isEnd attempt (s .descriptor) (s .offset) (s .submitted)) _ _
+      (λ ends. by-cond Says (isFlagged attempt (s .descriptor)) _ _
+      (λ flagged. by-cond Says (ltb (s .pending) places) _ Full (λ _. (refl, ends, rw (ends, flagged))) (λ _. tt))
+      (λ plain. (refl, ends, rw (ends, plain))))
+      (λ inside. (refl, inside, rw inside)))
+      (λ _. tt)) (λ _. tt)) (λ _. tt)) (λ _. tt))) (λ _. tt))

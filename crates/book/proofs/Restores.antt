@@ -68,7 +68,7 @@ module _ (s : List ℕ) (d : Hda) (h : Host) (l : List ℕ) where
     abbrev Starting : Book → Restored → Type 0
     Starting b r =
         let t = getD (r .answer .hda .streams) i freshOf in
-        restoredWith (t .submitted) (t .consumed) (positionsOf (t .pending) (partOf listSize i (r .lists))) ≡ note (restoredEvent s i) b
+        restoredWith (t .submitted) (t .consumed) (positionsOf (t .pending) (partOf listSize i (r .lists))) (t .descriptor) (t .offset) ≡ note (restoredEvent s i) b
 
     accepted-starts : (b : Book) → numberOf s d h ≡ 0 → Starting b (acceptedOf s d h l)
     unfolding note

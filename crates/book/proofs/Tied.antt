@@ -2,9 +2,10 @@
 -- is at most 16,384 bytes ahead of what is heard, and 4,352 were never pending; no transfer has failed without its reason. What each event keeps of it. Assumes nothing.
 use Prim.Native.Nat.{ℕ, _+_, _-_, _≤_, _<_, max}
 use mathlib.Core.Path.{_≡_, refl, sym, ap, subst, _∙_}
-use mathlib.Core.Bool.{Bool, true, false, not, _||_}
-use mathlib.Core.List.{List, [], _∷_, _++_, append-nil, append-assoc}
+use mathlib.Core.Bool.{Bool, true, false, cond, not, _&&_, _||_}
+use mathlib.Core.List.{List, [], _++_, append-assoc}
 use native.Mathlib.Omega.{arith}
+use lib.Dec.{eqb}
 use lib.ListN.{length}
 use Rattle.positions.specs.Positions.{positionsOf}
 use Rattle.positions.proofs.Change.{retire-drops}
@@ -15,7 +16,8 @@ use Rattle.stream.specs.Update.{consumedOf, retiredOf, updateOf}
 use Rattle.stream.proofs.Validity.{valid-parts, parts-valid, fresh-valid, retired-few, update-list-length, update-valid}
 use Rattle.plan.specs.declared.End.{End}
 use Rattle.plan.specs.declared.End.the-variants.{Inside, Plain, Flagged}
-use Rattle.pieces.specs.Pieces.{State, movedOf}
+use Rattle.plan.specs.declared.Plan.the-variants.{Move}
+use Rattle.pieces.specs.Pieces.{State, nextOf, movedOf}
 use Rattle.pieces.specs.Ends.{endedOf}
 use Rattle.pieces.proofs.Turns.{Moves}
 use Rattle.pieces.proofs.Facts.{length-list, next-submitted, next-consumed}
@@ -24,11 +26,13 @@ use Rattle.pieces.proofs.Positions.{moved-positions}
 use Rattle.pieces.proofs.Spacing.{SpacedAt, fresh-spaced, update-spaced, moved-spaced}
 use Rattle.turn.specs.Engines.{withFraction}
 use Rattle.turn.proofs.Rounds.{time}
-use Rattle.book.specs.Book.{Book, limit, Attempt, reset, moved, updated, failed, refused, upTo, above, restoredWith, movedBy, note}
+use Rattle.book.specs.Buffers.{Attempt, isFlagged, bytesOf, isEnd, behindOf}
+use Rattle.book.specs.Book.{Book, limit, reset, moved, updated, failed, refused, upTo, above, restoredWith, positionIf, movedTo, movedBy, note}
 use Rattle.book.specs.Reasons.{isFounded}
-use Rattle.book.specs.Events.{flaggedOf}
+use Rattle.book.specs.Events.{Given, attemptOf}
 use Rattle.book.specs.Claim.{Rises}
 use Rattle.book.proofs.Ghosts.{Ghost, ghost, isFull, see, none-full}
+use Rattle.book.proofs.Reasons.{bufferOf, endsOf, flaggedOf, Says}
 use Rattle.book.proofs.Orders.{rises-all, rises-same, rises-append, up-rises, above-drop, halves, few-pending}
 
 pub record Tied (F : Type 0) (s : Stream) (l : List ℕ) (a : Ghost) : Type 0 where
@@ -43,6 +47,8 @@ pub record Tied (F : Type 0) (s : Stream) (l : List ℕ) (a : Ghost) : Type 0 wh
   pub ahead : F → s .submitted ≤ s .consumed + 16384
   pub never : F → a .full ≡ false
   pub founded : a .groundless ≡ false
+  pub index : s .descriptor ≡ a .book .index
+  pub offset : s .offset ≡ a .book .offset
 
 -- few are pending where positions are 4 apart and the stream is at most 16,384 bytes ahead
 few-now : (s : Stream) (l ps : List ℕ) → validOf s l ≡ true → positionsOf (s .pending) l ≡ ps → SpacedAt s l → s .submitted ≤ s .consumed + 16384 → length ps < limit
@@ -52,29 +58,21 @@ few-now s l ps valid e spaced ahead =
     subst (λ (qs : List ℕ). length qs < limit) e
     (few-pending (s .consumed) (s .offset) (s .submitted) view spaced (rises-all (s .consumed) view (s .submitted) (v .heard) (v .rises)) ahead)
 
--- what a moved piece does to the book
-moved-submitted : (n : ℕ) (f : Bool) (b : Book) → movedBy n f b .submitted ≡ b .submitted + n
-moved-submitted n true b = refl
-moved-submitted n false b = refl
-
-moved-consumed : (n : ℕ) (f : Bool) (b : Book) → movedBy n f b .consumed ≡ b .consumed
-moved-consumed n true b = refl
-moved-consumed n false b = refl
-
-moved-pending : (n : ℕ) (end : End) (b : Book) → movedBy n (flaggedOf end) b .pending ≡ b .pending ++ endedOf (b .submitted + n) end
-moved-pending n Inside b = sym (append-nil (b .pending))
-moved-pending n Plain b = sym (append-nil (b .pending))
+-- what a moved piece does to the book, by how it ends
+moved-pending : (n : ℕ) (end : End) (b : Book) → positionIf (flaggedOf end) (b .submitted + n) ≡ endedOf (b .submitted + n) end
+moved-pending n Inside b = refl
+moved-pending n Plain b = refl
 moved-pending n Flagged b = refl
 
-moved-exact : (n : ℕ) (f : Bool) (b : Book) → b .ends ≡ b .retired ++ b .pending → let c = movedBy n f b in c .ends ≡ c .retired ++ c .pending
-moved-exact n true b e =
-    let last : List ℕ = (b .submitted + n) ∷ [] in
-    ap (λ (l : List ℕ). l ++ last) e ∙ append-assoc (b .retired) (b .pending) last
-moved-exact n false b e = e
+next-index : (s : Stream) (lvi n : ℕ) (end : End) → nextOf s lvi n end .descriptor ≡ cond (endsOf end) (cond (eqb (s .descriptor) lvi) 0 (s .descriptor + 1)) (s .descriptor)
+next-index s lvi n Inside = refl
+next-index s lvi n Plain = refl
+next-index s lvi n Flagged = refl
 
-moved-past : (n : ℕ) (f : Bool) (b : Book) → Rises 0 (b .retired) (b .consumed) → let c = movedBy n f b in Rises 0 (c .retired) (c .consumed)
-moved-past n true b r = r
-moved-past n false b r = r
+next-offset : (s : Stream) (lvi n : ℕ) (end : End) → nextOf s lvi n end .offset ≡ cond (endsOf end) 0 (s .offset + n)
+next-offset s lvi n Inside = refl
+next-offset s lvi n Plain = refl
+next-offset s lvi n Flagged = refl
 
 module _ (F : Type 0) where
   -- another frame time within the limit
@@ -93,6 +91,8 @@ module _ (F : Type 0) where
         ahead = t .ahead;
         never = t .never;
         founded = t .founded;
+        index = t .index;
+        offset = t .offset;
       }
 
   -- an event that lets the book stand, where it is no failure without its reason
@@ -111,6 +111,8 @@ module _ (F : Type 0) where
         ahead = t .ahead;
         never = λ f. none-full (a .book .pending) (a .full) (few-now s l (a .book .pending) (t .valid) (t .pending) (t .spaced f) (t .ahead f)) (t .never f);
         founded = rw e (t .founded);
+        index = t .index;
+        offset = t .offset;
       }
 
   -- an opening that was refused, and a transfer that failed for a reason
@@ -138,11 +140,13 @@ module _ (F : Type 0) where
         ahead = λ _. omega arith;
         never = λ f. none-full [] (a .full) (omega arith) (never f);
         founded = founded;
+        index = refl;
+        offset = refl;
       }
 
   -- the first device, or one restored: counts and positions as they are
   pub tied-opening : (s : Stream) (l ps : List ℕ) (full : Bool) → length l ≡ listSize → validOf s l ≡ true → positionsOf (s .pending) l ≡ ps → (F → SpacedAt s l)
-      → (F → s .submitted ≤ s .consumed + 16384) → (F → full ≡ false) → (groundless : Bool) → groundless ≡ false → Tied F s l (ghost (restoredWith (s .submitted) (s .consumed) ps) full groundless)
+      → (F → s .submitted ≤ s .consumed + 16384) → (F → full ≡ false) → (groundless : Bool) → groundless ≡ false → Tied F s l (ghost (restoredWith (s .submitted) (s .consumed) ps (s .descriptor) (s .offset)) full groundless)
   tied-opening s l ps full sized valid e spaced ahead never groundless founded =
       record {
         sized = sized;
@@ -156,6 +160,8 @@ module _ (F : Type 0) where
         ahead = ahead;
         never = never;
         founded = founded;
+        index = refl;
+        offset = refl;
       }
 
   -- the position update
@@ -194,39 +200,64 @@ module _ (F : Type 0) where
         ahead = ahead;
         never = λ f. none-full (above c′ (b .pending)) (a .full) (few-now (u .updated .stream) (u .list) (above c′ (b .pending)) valid pending (spaced f) (ahead f)) (t .never f);
         founded = t .founded;
+        index = t .index;
+        offset = t .offset;
       }
 
   -- a piece
-  module _ (g : Cyclic) (count : ℕ) (byte : g .lvi ≤ 255) where
-    pub tied-moved : (x : State) (a : Ghost) (at n : ℕ) (end : End) → x .done < count → Moves g count x at n end
+  module _ (v : Given) (g : Cyclic) (buffered : g ≡ bufferOf v) (count : ℕ) (byte : g .lvi ≤ 255) where
+    -- the book moves by the piece that the device moves
+    moved-same : (x : State) (b : Book) (at n : ℕ) (end : End) → x .stream .submitted ≡ b .submitted → x .stream .descriptor ≡ b .index → x .stream .offset ≡ b .offset
+        → Says v (x .stream) (x .memory) (count - x .done) (Move at n end)
+        → movedBy (attemptOf v count x) b ≡ movedTo n (endsOf end) (flaggedOf end) (behindOf (attemptOf v count x) (b .index)) b
+    moved-same x b at n end submitted index offset says =
+        let a = attemptOf v count x in
+        let behind = behindOf a (b .index) in
+        let ended = isEnd a (b .index) (b .offset) (b .submitted) in
+        let flagged = ended && isFlagged a (b .index) in
+        let bytes : bytesOf a (b .index) (b .offset) (b .submitted) ≡ n = rw (← index, ← offset, ← submitted) (sym (says .0)) in
+        let ends : ended ≡ endsOf end = rw (← index, ← offset, ← submitted) (says .1) in
+        let flags : flagged ≡ flaggedOf end = rw (← index, ← offset, ← submitted) (says .2) in
+        ap (λ (k : ℕ). movedTo k ended flagged behind b) bytes
+        ∙ ap (λ (t : Bool). movedTo n t flagged behind b) ends
+        ∙ ap (λ (t : Bool). movedTo n (endsOf end) t behind b) flags
+
+    pub tied-moved : (x : State) (a : Ghost) (at n : ℕ) (end : End) → x .done < count → Moves g count x at n end → Says v (x .stream) (x .memory) (count - x .done) (Move at n end)
         → (F → x .stream .submitted + n ≤ x .stream .consumed + 16384) → Tied F (x .stream) (x .list) a
-        → let y = movedOf g x at n end in Tied F (y .stream) (y .list) (see (moved n (flaggedOf end)) a)
+        → let y = movedOf g x at n end in Tied F (y .stream) (y .list) (see (moved (attemptOf v count x)) a)
     unfolding note
-    tied-moved x a at n end more k room t =
+    tied-moved x a at n end more k says room t =
         let s = x .stream in
         let b = a .book in
         let long : listSize ≤ length (x .list) = omega (arith, t .sized) in
         let y = movedOf g x at n end in
-        let ps = movedBy n (flaggedOf end) b .pending in
+        let c = movedTo n (endsOf end) (flaggedOf end) (behindOf (attemptOf v count x) (b .index)) b in
+        let ps = c .pending in
         let valid : validOf (y .stream) (y .list) ≡ true =
         parts-valid _ _ (moved-kept g count byte x at n end more k (long, valid-parts s (x .list) (t .valid)) .1) in
         let pending : positionsOf (y .stream .pending) (y .list) ≡ ps =
         moved-positions s (x .list) (g .lvi) n end (k .room) (k .submitted) long
         ∙ ap (λ (ps : List ℕ). ps ++ endedOf (s .submitted + n) end) (t .pending)
         ∙ ap (λ (m : ℕ). b .pending ++ endedOf (m + n) end) (t .submitted)
-        ∙ sym (moved-pending n end b) in
+        ∙ ap (λ (ps : List ℕ). b .pending ++ ps) (sym (moved-pending n end b)) in
         let spaced : F → SpacedAt (y .stream) (y .list) = λ f. moved-spaced g count x at n end k long (t .spaced f) in
         let ahead : F → y .stream .submitted ≤ y .stream .consumed + 16384 = λ f. omega (arith, room f, next-submitted s (g .lvi) n end, next-consumed s (g .lvi) n end) in
-        record {
+        let last = positionIf (flaggedOf end) (b .submitted + n) in
+        let lvi : g .lvi ≡ v .last = ap (λ (h : Cyclic). h .lvi) buffered in
+        subst (λ (d : Book). Tied F (y .stream) (y .list) (ghost d (isFull (d .pending) (a .full)) (a .groundless)))
+        (sym (moved-same x b at n end (t .submitted) (t .index) (t .offset) says))
+        (record {
           sized = length-list (x .list) s n end (k .room) long ∙ t .sized;
           valid = valid;
-          submitted = next-submitted s (g .lvi) n end ∙ ap (λ (m : ℕ). m + n) (t .submitted) ∙ sym (moved-submitted n (flaggedOf end) b);
-          consumed = next-consumed s (g .lvi) n end ∙ t .consumed ∙ sym (moved-consumed n (flaggedOf end) b);
+          submitted = next-submitted s (g .lvi) n end ∙ ap (λ (m : ℕ). m + n) (t .submitted);
+          consumed = next-consumed s (g .lvi) n end ∙ t .consumed;
           pending = pending;
-          exact = moved-exact n (flaggedOf end) b (t .exact);
-          past = moved-past n (flaggedOf end) b (t .past);
+          exact = ap (λ (l : List ℕ). l ++ last) (t .exact) ∙ append-assoc (b .retired) (b .pending) last;
+          past = t .past;
           spaced = spaced;
           ahead = ahead;
           never = λ f. none-full ps (a .full) (few-now (y .stream) (y .list) ps valid pending (spaced f) (ahead f)) (t .never f);
           founded = t .founded;
-        }
+          index = next-index s (g .lvi) n end ∙ rw (lvi, t .index);
+          offset = next-offset s (g .lvi) n end ∙ rw (t .offset);
+        })

@@ -27,7 +27,7 @@ use Rattle.pieces.proofs.Facts.{pieces-submitted, pieces-done}
 use Rattle.queue.specs.declared.Queue.{Queue}
 use Rattle.queue.specs.Queues.{capacity, queue, closed, latencyOf, putOf, takeOf}
 use Rattle.queue.proofs.Validity.{queue-bound}
-use Rattle.transfer.specs.Transfers.{Transfer, transferOut, withPieces, silence, takenOf, capturedOf, captureOf, playbackOf, transferOf}
+use Rattle.transfer.specs.Transfers.{Transfer, withPieces, silence, takenOf, capturedOf, captureOf, playbackOf, transferOf}
 use Rattle.transfer.proofs.Laws.{ready-cyclic}
 use Rattle.host.specs.declared.Host.{Host}
 use Rattle.host.specs.Hosts as hosts
@@ -127,7 +127,7 @@ module _ (F : Type 0) where
         → Tied F (x .stream) (x .list) (see (failed (attemptOf v count x)) a)
     founded-by count x a t reason =
         let pending : length (a .book .pending) ≡ x .stream .pending = ap length (sym (t .pending)) ∙ length-positions (x .stream .pending) (x .list) in
-        tied-failed F (x .stream) (x .list) a (attemptOf v count x) (rw (← t .submitted, pending) reason) t
+        tied-failed F (x .stream) (x .list) a (attemptOf v count x) (rw (← t .submitted, ← t .index, ← t .offset, pending) reason) t
 
     -- what the pieces of `count` bytes leave, with the failure where they stopped
     pieces-ended : (s : Stream) (l m pcm : List ℕ) (count : ℕ) (a : Ghost) → 0 < g .cyclic .cbl
@@ -165,18 +165,18 @@ module _ (F : Type 0) where
         let start : List ℕ → State = λ pcm. stateOf s (x .list) (x .memory) pcm 0 in
         let ended : Transfer → State → List Event = λ t y. failureEvents v count s (t .transferred .ok) (t .transferred .stream) y in
         let P : Transfer → List Event → State → Type 0 = λ t es y. Tied F (t .transferred .stream) (t .list) (sees (ended t y) (sees es a)) in
-        let Q : Transfer → List ℕ → Type 0 = λ t pcm. P t (piecesEvents count c count (start pcm)) (standingOf count c count (start pcm)) in
+        let Q : Transfer → List ℕ → Type 0 = λ t pcm. P t (piecesEvents v count c count (start pcm)) (standingOf count c count (start pcm)) in
         let taken = takenOf (g .connected) q (x .part) count in
         let sound = capturedOf (g .connected) (g .left) (g .right) (x .part) taken count in
         let o = piecesOf count c count (start (silence count)) in
         record {
           tied = let begun = start (samplesOf c q (g .connected) (g .left) (g .right) (x .part) count) in
-              rw (sees-append (onlyIf (readyOf c) (piecesEvents count c count begun)) (ended (transferAt g x n) (cond (readyOf c) (standingOf count c count begun) begun)) a)
+              rw (sees-append (onlyIf (readyOf c) (piecesEvents v count c count begun)) (ended (transferAt g x n) (cond (readyOf c) (standingOf count c count begun) begun)) a)
               (by-test (readyOf c)
               (λ ready. rw ready (
               let each : (pcm : List ℕ) → let z = piecesOf count c count (start pcm) in Q (withPieces z q (x .part)) pcm =
-              λ pcm. pieces-ended s (x .list) (x .memory) pcm count (sees (piecesEvents count c count (start pcm)) a) (ready-cyclic c ready)
-              (pieces-tied F c count (ready-byte c ready) count (start pcm) a (record { tied = h .tied; room = λ f. omega (arith, room f) }) .tied) in
+              λ pcm. pieces-ended s (x .list) (x .memory) pcm count (sees (piecesEvents v count c count (start pcm)) a) (ready-cyclic c ready)
+              (pieces-tied F v c buffered count (ready-byte c ready) count (start pcm) a (record { tied = h .tied; room = λ f. omega (arith, room f) }) .tied) in
               by-both Q (c .capture) (captureOf c s q (g .connected) (g .left) (g .right) (x .list) (x .part) (x .memory) count)
               (playbackOf c s q (g .connected) (g .left) (g .right) (x .list) (x .part) (x .memory) count) sound (silence count)
               (λ _. each sound)

@@ -61,6 +61,9 @@ pub record Agrees (i : ℕ) (cs : List Step) (x : Machine) : Type 0 where
   pub submitted : streamAt (run cs x .hda) i .submitted ≡ bookOf i cs x .submitted
   pub consumed : streamAt (run cs x .hda) i .consumed ≡ bookOf i cs x .consumed
   pub pending : pendingOf i (run cs x) ≡ bookOf i cs x .pending
+  -- and so is where its next piece begins
+  pub index : streamAt (run cs x .hda) i .descriptor ≡ bookOf i cs x .index
+  pub offset : streamAt (run cs x .hda) i .offset ≡ bookOf i cs x .offset
   -- consumed never passes submitted; pending positions rise strictly, above consumed and up to submitted
   pub heard : streamAt (run cs x .hda) i .consumed ≤ streamAt (run cs x .hda) i .submitted
   pub rises : Rises (streamAt (run cs x .hda) i .consumed) (pendingOf i (run cs x)) (streamAt (run cs x .hda) i .submitted)

@@ -76,8 +76,8 @@ pub record Declined (i : ℕ) (x : Machine) : Type 0 where
 -- the book begins with a position update: of an `advance`, that it served the stream
 abbrev pub Updates : Event → Type 0
 Updates reset = ⊥
-Updates (restored submitted consumed positions) = ⊥
-Updates (moved n flagged) = ⊥
+Updates (restored submitted consumed positions index offset) = ⊥
+Updates (moved attempt) = ⊥
 Updates (updated latency) = Unit {0}
 Updates (failed attempt) = ⊥
 Updates refused = ⊥

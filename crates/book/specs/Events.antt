@@ -16,12 +16,8 @@ use Rattle.stream.specs.declared.Stream.{Stream}
 use Rattle.stream.specs.declared.Cyclic.{Cyclic}
 use Rattle.stream.specs.Streams.{listSize}
 use Rattle.stream.specs.Box.{captures}
-use Rattle.plan.specs.declared.End.{End}
-use Rattle.plan.specs.declared.End.the-variants.{Inside, Plain, Flagged}
-use Rattle.plan.specs.declared.Plan.{Plan}
-use Rattle.plan.specs.declared.Plan.the-variants.{Failed, Full, Move}
-use Rattle.plan.specs.Plans.{readyOf, planOf}
-use Rattle.pieces.specs.Pieces.{State, Out, stateOf, pieceOf}
+use Rattle.plan.specs.Plans.{readyOf}
+use Rattle.pieces.specs.Pieces.{State, stateOf, pieceOf}
 use Rattle.queue.specs.declared.Queue.{Queue}
 use Rattle.queue.specs.Queues.{capacity}
 use Rattle.transfer.specs.Transfers.{silence, takenOf, capturedOf}
@@ -38,13 +34,15 @@ use Rattle.device.specs.Machines.{Machine, checkMachine, withCommanded, command
 use Rattle.settle.specs.declared.Ports.{Ports}
 use Rattle.settle.specs.Settle.{ports, settleAt}
 use Rattle.write.specs.Writes.{writtenOf, controlledOf, flushedOf}
-use Rattle.serve.specs.Serve.{turnsOf, runs, goesOn, turnAt}
+use Rattle.serve.specs.Serve as serve
+use Rattle.serve.specs.Serve.{turnsOf, runs, turnAt}
 use Rattle.advance.specs.Advance.{tickedOf}
 use Rattle.record.specs.Loads as record-loads
 use Rattle.parse.specs.States.{placeOf}
 use Rattle.restore.specs.Restores as restore
 use Rattle.calls.specs.Calls as calls
-use Rattle.book.specs.Book.{Attempt, Event, reset, restored, moved, updated, failed, refused}
+use Rattle.book.specs.Buffers.{Attempt}
+use Rattle.book.specs.Book.{Event, reset, restored, moved, updated, failed, refused}
 
 abbrev pub onlyIf : Bool → List Event → List Event
 onlyIf b es = cond b es []
@@ -62,28 +60,17 @@ givenOf i downstream regs =
     record { capture = captures i; downstream = downstream; base = wordAt 8 (bdpl i) regs; cyclic = wordAt 4 (cbl i) regs; last = wordAt 2 (lvi i) regs }
 
 -- ---- a transfer: its pieces, and that it failed
-abbrev pub flaggedOf : End → Bool
-flaggedOf Inside = false
-flaggedOf Plain = false
-flaggedOf Flagged = true
+-- a piece that is to move next, of a transfer of `count` bytes in the state x
+abbrev pub attemptOf : Given → ℕ → State → Attempt
+attemptOf v count x = record { base = v .base; cyclic = v .cyclic; last = v .last; left = count - x .done; memory = x .memory }
 
-abbrev pub planEvents : Plan → List Event
-planEvents Failed = []
-planEvents Full = []
-planEvents (Move at n end) = moved n (flaggedOf end) ∷ []
+-- whether it is to move and does
+abbrev pub goesOn : Cyclic → ℕ → State → Bool
+goesOn g count x = ltb (x .done) count && pieceOf g count x .ok
 
-abbrev pub onwardEvents : Bool → Out → (State → List Event) → List Event
-onwardEvents true o rest = rest (o .state)
-onwardEvents false o rest = []
-
-abbrev pub againPieces : Bool → List Event → Out → (State → List Event) → List Event
-againPieces true es o rest = es ++ onwardEvents (o .ok) o rest
-againPieces false es o rest = []
-
-unfoldable pub piecesEvents : ℕ → Cyclic → ℕ → State → List Event
-piecesEvents zero g count x = []
-piecesEvents (suc fuel) g count x =
-    againPieces (ltb (x .done) count) (planEvents (planOf g (x .stream) (x .memory) (count - x .done))) (pieceOf g count x) (piecesEvents fuel g count)
+unfoldable pub piecesEvents : Given → ℕ → Cyclic → ℕ → State → List Event
+piecesEvents v zero g count x = []
+piecesEvents v (suc fuel) g count x = onlyIf (goesOn g count x) (moved (attemptOf v count x) ∷ piecesEvents v fuel g count (pieceOf g count x .state))
 
 -- the samples that a transfer starts with, as `captureOf` and `playbackOf` have them
 abbrev pub samplesOf : Cyclic → Queue → Bool → ℕ → ℕ → List ℕ → ℕ → List ℕ
@@ -93,19 +80,7 @@ samplesOf g q connected left right part count =
 -- the state in which a transfer stands still: before the first piece that does not move, or behind the last
 unfoldable pub standingOf : ℕ → Cyclic → ℕ → State → State
 standingOf zero g count x = x
-standingOf (suc fuel) g count x = cond (ltb (x .done) count && pieceOf g count x .ok) (standingOf fuel g count (pieceOf g count x .state)) x
-
-abbrev pub attemptOf : Given → ℕ → State → Attempt
-attemptOf v count x =
-    record {
-      base = v .base;
-      cyclic = v .cyclic;
-      last = v .last;
-      index = x .stream .descriptor;
-      offset = x .stream .offset;
-      left = count - x .done;
-      memory = x .memory;
-    }
+standingOf (suc fuel) g count x = cond (goesOn g count x) (standingOf fuel g count (pieceOf g count x .state)) x
 
 -- A transfer has failed where the device says so, and where submitted has not grown by all its bytes, by whatever name the device calls that; `x` is where it stands still.
 abbrev pub failureEvents : Given → ℕ → Stream → Bool → Stream → State → List Event
@@ -119,7 +94,7 @@ transferEvents v g x n =
     let t = transferAt g x n .transferred in
     let count = 4 * n in
     let s = stateOf (e .stream) (x .list) (x .memory) (samplesOf c (e .queue) (g .connected) (g .left) (g .right) (x .part) count) 0 in
-    onlyIf (readyOf c) (piecesEvents count c count s) ++ failureEvents v count (e .stream) (t .ok) (t .stream) (cond (readyOf c) (standingOf count c count s) s)
+    onlyIf (readyOf c) (piecesEvents v count c count s) ++ failureEvents v count (e .stream) (t .ok) (t .stream) (cond (readyOf c) (standingOf count c count s) s)
 
 -- ---- a turn: the position update at its start, then transfers, each with an update where it succeeded
 -- document 01's latency: none for a capture; for a playback the bytes queued and those downstream
@@ -173,8 +148,8 @@ turnEvents downstream nanos i x =
 -- ---- advance: stream i's turn finds what the turns before it left, and is not taken where one of them was refused
 unfoldable pub serveEvents : ℕ → ℕ → ℕ → Machine → List Event
 serveEvents downstream nanos i x =
-    let w = eachOf goesOn (turnAt nanos) i 0 (turnsOf false x) in
-    onlyIf (goesOn w) (turnEvents downstream nanos i (w .machine))
+    let w = eachOf serve.goesOn (turnAt nanos) i 0 (turnsOf false x) in
+    onlyIf (serve.goesOn w) (turnEvents downstream nanos i (w .machine))
 
 unfoldable pub advanceEvents : ℕ → ℕ → Machine → List Event
 advanceEvents nanos i x =
@@ -198,7 +173,7 @@ writeEvents offset bytes i x =
 abbrev pub restoredEvent : List ℕ → ℕ → Event
 restoredEvent s i =
     let t = record-loads.streamAt (placeOf s i) s in
-    restored (t .submitted) (t .consumed) (positionsOf (t .pending) (drop (placeOf s i + 34) s))
+    restored (t .submitted) (t .consumed) (positionsOf (t .pending) (drop (placeOf s i + 34) s)) (t .descriptor) (t .offset)
 
 unfoldable pub restoreEvents : List ℕ → ℕ → Machine → List Event
 restoreEvents s i x = onlyIf (eqb (restore.numberOf s (x .hda) (x .host)) 0) (restoredEvent s i ∷ [])

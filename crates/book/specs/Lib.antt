@@ -1,3 +1,4 @@
+pub mod Buffers
 pub mod Book
 pub mod Reasons
 pub mod Events

@@ -42,7 +42,7 @@ pendingOf i x = positionsOf (streamAt (x .hda) i .pending) (partOf listSize i (x
 
 -- the book starts from the first device and lists: of a new one all is 0 and empty, of a restored one its positions stand in ends and pending
 abbrev pub openingOf : ℕ → Machine → Book
-openingOf i x = restoredWith (streamAt (x .hda) i .submitted) (streamAt (x .hda) i .consumed) (pendingOf i x)
+openingOf i x = let s = streamAt (x .hda) i in restoredWith (s .submitted) (s .consumed) (pendingOf i x) (s .descriptor) (s .offset)
 
 unfoldable pub bookOf : ℕ → List Step → Machine → Book
 bookOf i cs x = notes (allEvents i cs x) (openingOf i x)

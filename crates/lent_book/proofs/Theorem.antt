@@ -148,10 +148,6 @@ new-done microphone x =
     by-new microphone (x .device) (length (x .lists)) (length (x .queues)) (λ (m : Made). m .reply ≡ 0 → Fresh microphone (m .device) (x .lists))
     (λ short _. (refl, room (length (x .lists)) (length (x .queues)) short .0)) (λ n e z. absurd (eqb-false n 0 e z))
 
-new-lists : (microphone : Bool) (x : Lent) → after (new microphone) x .lists ≡ x .lists
-unfolding after
-new-lists microphone x = refl
-
 -- the machine in what it leaves
 new-machine : (microphone : Bool) (x : Lent) → newReply microphone x ≡ 0
     → machineAt (after (new microphone) x) ≡ book-claim.made microphone (hostAt (x .host)) (x .lists) (x .queues) (x .memory)
@@ -319,6 +315,8 @@ agrees i own cs x start =
       submitted = t .submitted ∙ ap (λ (b : Book). b .submitted) same;
       consumed = t .consumed ∙ ap (λ (b : Book). b .consumed) same;
       pending = t .pending ∙ ap (λ (b : Book). b .pending) same;
+      index = t .index ∙ ap (λ (b : Book). b .index) same;
+      offset = t .offset ∙ ap (λ (b : Book). b .offset) same;
       heard = v .heard;
       rises = rises-all _ (pendingIn i (run cs x)) _ (v .heard) (v .rises);
       exact = subst (λ (b : Book). b .ends ≡ b .retired ++ b .pending) same (t .exact);

@@ -80,9 +80,6 @@ tailed-leaves x k p s =
     finished-leaves (withCommanded x (p .host) c)
     (commanded-kept x k (p .host) c (commanded-formed (p .hda) (s .device) (x .memory)) (s .host) (commanded-bytes (p .hda) (x .memory) (k .memory))) 0
 
-shaped : (x : Machine) → Kept x → Shaped (ports (x .hda) (x .host))
-shaped x k = record { device = k .device; host = k .host }
-
 -- ---- advance
 with-part-bytes : (n i : ℕ) (l part : List ℕ) → Bytes l → Bytes part → Bytes (withPart n i l part)
 with-part-bytes n i l part h b =

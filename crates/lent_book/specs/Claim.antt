@@ -57,6 +57,9 @@ pub record Agrees (i : ℕ) (cs : List Step) (x : Lent) : Type 0 where
   pub submitted : streamIn i (run cs x) .submitted ≡ bookOf i cs x .submitted
   pub consumed : streamIn i (run cs x) .consumed ≡ bookOf i cs x .consumed
   pub pending : pendingIn i (run cs x) ≡ bookOf i cs x .pending
+  -- and so is where its next piece begins
+  pub index : streamIn i (run cs x) .descriptor ≡ bookOf i cs x .index
+  pub offset : streamIn i (run cs x) .offset ≡ bookOf i cs x .offset
   -- consumed never passes submitted; pending positions rise strictly, above consumed and up to submitted
   pub heard : streamIn i (run cs x) .consumed ≤ streamIn i (run cs x) .submitted
   pub rises : Rises (streamIn i (run cs x) .consumed) (pendingIn i (run cs x)) (streamIn i (run cs x) .submitted)

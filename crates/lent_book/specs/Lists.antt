@@ -52,7 +52,7 @@ pendingIn i x = positionsOf (streamIn i x .pending) (partOf listSize i (x .lists
 -- ---- the book
 -- it starts from the first record and lists
 abbrev pub openingIn : ℕ → Lent → Book
-openingIn i x = restoredWith (streamIn i x .submitted) (streamIn i x .consumed) (pendingIn i x)
+openingIn i x = let s = streamIn i x in restoredWith (s .submitted) (s .consumed) (pendingIn i x) (s .descriptor) (s .offset)
 
 -- what hda_new returns
 abbrev pub newReply : Bool → Lent → ℕ
