@@ -22,6 +22,12 @@ def replacements(path, crate):
                 yield file, old, text
 
 
+def value(path, key):
+    """What an edit's line `key: TEXT` has."""
+    with open(path, encoding='utf-8') as lines:
+        return next((line.rstrip('\n').partition(': ')[2] for line in lines if line.startswith(key + ': ')), '')
+
+
 def apply(paths, crate, folder):
     """Makes the edits in a copy of the repository, each by the text as it was: there its old text must stand once."""
     places = {}
@@ -38,8 +44,11 @@ def apply(paths, crate, folder):
     for file, changes in places.items():
         with open(file, encoding='utf-8') as f:
             text = f.read()
+        behind = len(text)
         for at, old, new in sorted(changes, reverse=True):
-            text = text[:at] + new + text[at + len(old):]
+            if at + len(old) > behind:
+                sys.exit('two edits of %s meet at: %s' % (file, old))
+            text, behind = text[:at] + new + text[at + len(old):], at
         with open(os.path.join(folder, file), 'w', encoding='utf-8') as f:
             f.write(text)
 

@@ -9,7 +9,7 @@ use lib.Dec.{leb}
 use lib.ListN.{length}
 use Rattle.word.proofs.Choices.{neither, by-either, right}
 use Rattle.book.specs.Book.{Book, Event, reset, restored, moved, updated, failed, refused, limit, note, notes}
-use Rattle.book.specs.Buffers.{isFlagged, isEnd}
+use Rattle.book.specs.Buffers.{entryFlagged, endsEntry}
 use Rattle.book.specs.Reasons.{isLimit, isFounded, isUnlimited, Tested, Failures}
 use Rattle.book.specs.Claim.{Few}
 
@@ -91,7 +91,7 @@ unlimited (updated latency) b few h = tt
 unlimited (failed a) b few h =
     let many = leb limit (length (b .pending)) in
     by-either (isUnlimited a b) (isLimit a (b .index) (b .offset) (b .submitted) (length (b .pending))) (λ e. e)
-    (λ e. absurd (omega (arith, few, leb-true limit (length (b .pending)) (right (isFlagged a (b .index)) many (right (isEnd a (b .index) (b .offset) (b .submitted)) (isFlagged a (b .index) && many) e)))))
+    (λ e. absurd (omega (arith, few, leb-true limit (length (b .pending)) (right (entryFlagged a (b .index)) many (right (endsEntry a (b .index) (b .offset) (b .submitted)) (entryFlagged a (b .index) && many) e)))))
     h
 unlimited refused b few h = tt
 

@@ -3,6 +3,7 @@ use Prim.Native.Nat.{ℕ, zero, suc, _+_, _-_, _%_}
 use mathlib.Core.Path.{_≡_, refl, sym, _∙_}
 use mathlib.Core.Bool.{Bool, true, false, not, _&&_, _||_, true≢false}
 use mathlib.Core.List.{List, [], _∷_}
+use native.Mathlib.Omega.{arith}
 use borrow.Author.Tests.{not-false, ltb-true, ltb-false, leb-true, leb-false, le-leb, lt-leb, lt-ltb, le-ltb}
 use lib.Dec.{eqb, leb, ltb}
 use lib.ListN.{length, getD}
@@ -17,7 +18,7 @@ use Rattle.plan.specs.declared.Plan.{Plan}
 use Rattle.plan.specs.declared.Plan.the-variants.{Failed, Full, Move}
 use Rattle.stream.specs.Streams.{places, maxCount}
 use Rattle.plan.specs.Plans.{readyOf, endOf, placedOf, entryOf, fetchedOf, planOf}
-use Rattle.book.specs.Buffers.{Attempt, placeOf, addressOf, lengthOf, isFlagged, bytesOf, isEnd}
+use Rattle.book.specs.Buffers.{Attempt, entryPlace, entryAddress, entryLength, entryFlagged, pieceBytes, endsEntry}
 use Rattle.book.specs.Book.{limit}
 use Rattle.book.specs.Reasons.{reasonsOf, anyOf, isReason, isLimit}
 use Rattle.book.specs.Events.{Given}
@@ -48,12 +49,12 @@ record Clear (a : Attempt) (index offset submitted : ℕ) : Type 0 where
   whole : eqb (a .cyclic % 4) 0 ≡ true
   byte : ltb 255 (a .last) ≡ false
   listed : ltb (a .last) index ≡ false
-  there : ltb (length (a .memory)) (placeOf a index + 16) ≡ false
-  long : eqb (lengthOf a index) 0 ≡ false
-  even : eqb (lengthOf a index % 4) 0 ≡ true
-  inside : leb (lengthOf a index) offset ≡ false
-  held : ltb (length (a .memory)) (addressOf a index + (offset + bytesOf a index offset submitted)) ≡ false
-  counted : ltb 0xffff_ffff_ffff_ffff (submitted + bytesOf a index offset submitted) ≡ false
+  there : ltb (length (a .memory)) (entryPlace a index + 16) ≡ false
+  long : eqb (entryLength a index) 0 ≡ false
+  even : eqb (entryLength a index % 4) 0 ≡ true
+  inside : leb (entryLength a index) offset ≡ false
+  held : ltb (length (a .memory)) (entryAddress a index + (offset + pieceBytes a index offset submitted)) ≡ false
+  counted : ltb 0xffff_ffff_ffff_ffff (submitted + pieceBytes a index offset submitted) ≡ false
 
 -- none of several tests holds: so not the one with this number
 none-of : (ts : List Bool) → anyOf ts ≡ false → (k : ℕ) → getD ts k false ≡ false
@@ -96,12 +97,12 @@ module _ (v : Given) (s : Stream) (m : List ℕ) (left : ℕ) where
 
   module _ (unlimited : isLimit attempt (s .descriptor) (s .offset) (s .submitted) (s .pending) ≡ false) where
     -- a flagged end finds a place
-    clear-end : moves (endOf s (entryAt m (placeOf attempt (s .descriptor))) (bytesOf attempt (s .descriptor) (s .offset) (s .submitted))) ≡ true
+    clear-end : moves (endOf s (entryAt m (entryPlace attempt (s .descriptor))) (pieceBytes attempt (s .descriptor) (s .offset) (s .submitted))) ≡ true
     unfolding endOf entryAt isLimit
     clear-end =
         let P : Plan → Type 0 = λ p. moves p ≡ true in
-        by-cond P (eqb (s .offset + bytesOf attempt (s .descriptor) (s .offset) (s .submitted)) (lengthOf attempt (s .descriptor))) _ _
-        (λ ends. by-cond P (isFlagged attempt (s .descriptor)) _ _
+        by-cond P (eqb (s .offset + pieceBytes attempt (s .descriptor) (s .offset) (s .submitted)) (entryLength attempt (s .descriptor))) _ _
+        (λ ends. by-cond P (entryFlagged attempt (s .descriptor)) _ _
         (λ flagged. by-cond P (ltb (s .pending) places) _ _ (λ _. refl)
         (λ none. let limited : isLimit attempt (s .descriptor) (s .offset) (s .submitted) (s .pending) ≡ true = rw (ends, flagged, le-leb limit (s .pending) (ltb-false (s .pending) places none)) in
         absurd (true≢false (sym limited ∙ unlimited))))
@@ -113,12 +114,12 @@ module _ (v : Given) (s : Stream) (m : List ℕ) (left : ℕ) where
     clear-moves c =
         rw (
           c .listed,
-          at-most (placeOf attempt (s .descriptor) + 16) (length m) (c .there),
+          at-most (entryPlace attempt (s .descriptor) + 16) (length m) (c .there),
           c .long,
           c .even,
-          below (s .offset) (lengthOf attempt (s .descriptor)) (c .inside),
-          at-most (addressOf attempt (s .descriptor) + (s .offset + bytesOf attempt (s .descriptor) (s .offset) (s .submitted))) (length m) (c .held),
-          at-most (s .submitted + bytesOf attempt (s .descriptor) (s .offset) (s .submitted)) maxCount (c .counted),
+          below (s .offset) (entryLength attempt (s .descriptor)) (c .inside),
+          at-most (entryAddress attempt (s .descriptor) + (s .offset + pieceBytes attempt (s .descriptor) (s .offset) (s .submitted))) (length m) (c .held),
+          at-most (s .submitted + pieceBytes attempt (s .descriptor) (s .offset) (s .submitted)) maxCount (c .counted),
         ) clear-end
 
   -- by contradiction: where nothing speaks against it the buffer is taken, and the piece moves
@@ -136,6 +137,33 @@ module _ (v : Given) (s : Stream) (m : List ℕ) (left : ℕ) where
   pub unmoved-reasoned : moves (planOf (bufferOf v) s m left) ≡ false → Reasoned
   unmoved-reasoned e = reasoned (λ c unlimited. true≢false (sym (clear-moves unlimited c) ∙ e))
 
+  -- ---- what a piece that moves is: its bytes, whether it ends its descriptor, and whether that end is flagged
+  abbrev pub Says : Plan → Type 0
+  Says Failed = Unit {0}
+  Says Full = Unit {0}
+  Says (Move at n end) =
+      let ended = endsEntry attempt (s .descriptor) (s .offset) (s .submitted) in
+      (n ≡ pieceBytes attempt (s .descriptor) (s .offset) (s .submitted)) × (ended ≡ endsOf end) × (ended && entryFlagged attempt (s .descriptor) ≡ flaggedOf end)
+
+  pub plan-says : Says (planOf (bufferOf v) s m left)
+  unfolding planOf descriptorOf entryAt entryOf placedOf endOf
+  plan-says =
+      let size = length m in
+      let n = pieceBytes attempt (s .descriptor) (s .offset) (s .submitted) in
+      by-cond Says (ltb (v .last) (s .descriptor)) Failed _ (λ _. tt)
+      (λ _. by-cond (λ f. Says (fetchedOf (bufferOf v) s size left f)) (leb (entryPlace attempt (s .descriptor) + 16) size) _ Outside
+      (λ _. by-cond Says (eqb (entryLength attempt (s .descriptor)) 0) Failed _ (λ _. tt)
+      (λ _. by-cond Says (eqb (entryLength attempt (s .descriptor) % 4) 0) _ Failed
+      (λ _. by-cond Says (ltb (s .offset) (entryLength attempt (s .descriptor))) _ Failed
+      (λ _. by-cond Says (leb (entryAddress attempt (s .descriptor) + (s .offset + n)) size) _ Failed
+      (λ _. by-cond Says (leb (s .submitted + n) maxCount) _ Failed
+      (λ _. by-cond Says (endsEntry attempt (s .descriptor) (s .offset) (s .submitted)) _ _
+      (λ ends. by-cond Says (entryFlagged attempt (s .descriptor)) _ _
+      (λ flagged. by-cond Says (ltb (s .pending) places) _ Full (λ _. (refl, ends, rw (ends, flagged))) (λ _. tt))
+      (λ plain. (refl, ends, rw (ends, plain))))
+      (λ inside. (refl, inside, rw inside)))
+      (λ _. tt)) (λ _. tt)) (λ _. tt)) (λ _. tt))) (λ _. tt))
+
   -- ---- and the other way round: where the buffer is taken and the piece moves, nothing speaks against it
   abbrev Reason : Bool
   Reason = isReason attempt (s .descriptor) (s .offset) (s .submitted) || isLimit attempt (s .descriptor) (s .offset) (s .submitted) (s .pending)
@@ -149,14 +177,14 @@ module _ (v : Given) (s : Stream) (m : List ℕ) (left : ℕ) where
   taken-quiet : eqb (v .cyclic) 0 ≡ false → eqb (v .cyclic % 4) 0 ≡ true → leb (v .last) 255 ≡ true → Quiet (planOf (bufferOf v) s m left)
   unfolding planOf descriptorOf entryAt entryOf placedOf endOf isReason isLimit
   taken-quiet some whole byte =
-      let n = bytesOf attempt (s .descriptor) (s .offset) (s .submitted) in
+      let n = pieceBytes attempt (s .descriptor) (s .offset) (s .submitted) in
       let size = length m in
       by-cond Quiet (ltb (v .last) (s .descriptor)) Failed _ (λ _. stops)
-      (λ listed. by-cond (λ f. Quiet (fetchedOf (bufferOf v) s size left f)) (leb (placeOf attempt (s .descriptor) + 16) size) _ Outside
-      (λ there. by-cond Quiet (eqb (lengthOf attempt (s .descriptor)) 0) Failed _ (λ _. stops)
-      (λ long. by-cond Quiet (eqb (lengthOf attempt (s .descriptor) % 4) 0) _ Failed
-      (λ even. by-cond Quiet (ltb (s .offset) (lengthOf attempt (s .descriptor))) _ Failed
-      (λ inside. by-cond Quiet (leb (addressOf attempt (s .descriptor) + (s .offset + n)) size) _ Failed
+      (λ listed. by-cond (λ f. Quiet (fetchedOf (bufferOf v) s size left f)) (leb (entryPlace attempt (s .descriptor) + 16) size) _ Outside
+      (λ there. by-cond Quiet (eqb (entryLength attempt (s .descriptor)) 0) Failed _ (λ _. stops)
+      (λ long. by-cond Quiet (eqb (entryLength attempt (s .descriptor) % 4) 0) _ Failed
+      (λ even. by-cond Quiet (ltb (s .offset) (entryLength attempt (s .descriptor))) _ Failed
+      (λ inside. by-cond Quiet (leb (entryAddress attempt (s .descriptor) + (s .offset + n)) size) _ Failed
       (λ held. by-cond Quiet (leb (s .submitted + n) maxCount) _ Failed
       (λ counted.
       let free : isReason attempt (s .descriptor) (s .offset) (s .submitted) ≡ false =
@@ -165,17 +193,17 @@ module _ (v : Given) (s : Stream) (m : List ℕ) (left : ℕ) where
         whole,
         le-ltb 255 (v .last) (leb-true (v .last) 255 byte),
         listed,
-        le-ltb size (placeOf attempt (s .descriptor) + 16) (leb-true (placeOf attempt (s .descriptor) + 16) size there),
+        le-ltb size (entryPlace attempt (s .descriptor) + 16) (leb-true (entryPlace attempt (s .descriptor) + 16) size there),
         long,
         even,
-        lt-leb (lengthOf attempt (s .descriptor)) (s .offset) (ltb-true (s .offset) (lengthOf attempt (s .descriptor)) inside),
-        le-ltb size (addressOf attempt (s .descriptor) + (s .offset + n)) (leb-true (addressOf attempt (s .descriptor) + (s .offset + n)) size held),
+        lt-leb (entryLength attempt (s .descriptor)) (s .offset) (ltb-true (s .offset) (entryLength attempt (s .descriptor)) inside),
+        le-ltb size (entryAddress attempt (s .descriptor) + (s .offset + n)) (leb-true (entryAddress attempt (s .descriptor) + (s .offset + n)) size held),
         le-ltb maxCount (s .submitted + n) (leb-true (s .submitted + n) maxCount counted),
       ) in
-      by-cond Quiet (eqb (s .offset + n) (lengthOf attempt (s .descriptor))) _ _
-      (λ ends. by-cond Quiet (isFlagged attempt (s .descriptor)) _ _
+      by-cond Quiet (eqb (s .offset + n) (entryLength attempt (s .descriptor))) _ _
+      (λ ends. by-cond Quiet (entryFlagged attempt (s .descriptor)) _ _
       (λ flagged. by-cond Quiet (ltb (s .pending) places) _ Full
-      (λ room _. rw (free, ends, flagged, lt-leb limit (s .pending) (ltb-true (s .pending) places room))) (λ _ e. absurd (true≢false (sym e))))
+      (λ room _. rw (free, ends, flagged, lt-leb limit (s .pending) (omega (arith, ltb-true (s .pending) places room)))) (λ _ e. absurd (true≢false (sym e))))
       (λ plain _. rw (free, ends, plain)))
       (λ inside _. rw (free, inside)))
       (λ _. stops)) (λ _. stops)) (λ _. stops)) (λ _. stops))) (λ _. stops))
@@ -193,30 +221,3 @@ module _ (v : Given) (s : Stream) (m : List ℕ) (left : ℕ) where
       by-test (readyOf (bufferOf v))
       (λ ready. by-test (moves (planOf (bufferOf v) s m left)) (λ moved. rw (ready, moved) (ready-quiet ready moved)) (λ stopped. rw (ready, stopped) (unmoved-reasoned stopped)))
       (λ unready. rw unready (unready-reasoned unready))
-
-  -- ---- what a piece that moves is: its bytes, whether it ends its descriptor, and whether that end is flagged
-  abbrev pub Says : Plan → Type 0
-  Says Failed = Unit {0}
-  Says Full = Unit {0}
-  Says (Move at n end) =
-      let ended = isEnd attempt (s .descriptor) (s .offset) (s .submitted) in
-      (n ≡ bytesOf attempt (s .descriptor) (s .offset) (s .submitted)) × (ended ≡ endsOf end) × (ended && isFlagged attempt (s .descriptor) ≡ flaggedOf end)
-
-  pub plan-says : Says (planOf (bufferOf v) s m left)
-  unfolding planOf descriptorOf entryAt entryOf placedOf endOf
-  plan-says =
-      let size = length m in
-      let n = bytesOf attempt (s .descriptor) (s .offset) (s .submitted) in
-      by-cond Says (ltb (v .last) (s .descriptor)) Failed _ (λ _. tt)
-      (λ _. by-cond (λ f. Says (fetchedOf (bufferOf v) s size left f)) (leb (placeOf attempt (s .descriptor) + 16) size) _ Outside
-      (λ _. by-cond Says (eqb (lengthOf attempt (s .descriptor)) 0) Failed _ (λ _. tt)
-      (λ _. by-cond Says (eqb (lengthOf attempt (s .descriptor) % 4) 0) _ Failed
-      (λ _. by-cond Says (ltb (s .offset) (lengthOf attempt (s .descriptor))) _ Failed
-      (λ _. by-cond Says (leb (addressOf attempt (s .descriptor) + (s .offset + n)) size) _ Failed
-      (λ _. by-cond Says (leb (s .submitted + n) maxCount) _ Failed
-      (λ _. by-cond Says (isEnd attempt (s .descriptor) (s .offset) (s .submitted)) _ _
-      (λ ends. by-cond Says (isFlagged attempt (s .descriptor)) _ _
-      (λ flagged. by-cond Says (ltb (s .pending) places) _ Full (λ _. (refl, ends, rw (ends, flagged))) (λ _. tt))
-      (λ plain. (refl, ends, rw (ends, plain))))
-      (λ inside. (refl, inside, rw inside)))
-      (λ _. tt)) (λ _. tt)) (λ _. tt)) (λ _. tt))) (λ _. tt))

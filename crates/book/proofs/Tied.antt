@@ -26,7 +26,7 @@ use Rattle.pieces.proofs.Positions.{moved-positions}
 use Rattle.pieces.proofs.Spacing.{SpacedAt, fresh-spaced, update-spaced, moved-spaced}
 use Rattle.turn.specs.Engines.{withFraction}
 use Rattle.turn.proofs.Rounds.{time}
-use Rattle.book.specs.Buffers.{Attempt, isFlagged, bytesOf, isEnd, behindOf}
+use Rattle.book.specs.Buffers.{Attempt, entryFlagged, pieceBytes, endsEntry, entryBehind}
 use Rattle.book.specs.Book.{Book, limit, reset, moved, updated, failed, refused, upTo, above, restoredWith, positionIf, movedTo, movedBy, note}
 use Rattle.book.specs.Reasons.{isFounded}
 use Rattle.book.specs.Events.{Given, attemptOf}
@@ -209,13 +209,13 @@ module _ (F : Type 0) where
     -- the book moves by the piece that the device moves
     moved-same : (x : State) (b : Book) (at n : ℕ) (end : End) → x .stream .submitted ≡ b .submitted → x .stream .descriptor ≡ b .index → x .stream .offset ≡ b .offset
         → Says v (x .stream) (x .memory) (count - x .done) (Move at n end)
-        → movedBy (attemptOf v count x) b ≡ movedTo n (endsOf end) (flaggedOf end) (behindOf (attemptOf v count x) (b .index)) b
+        → movedBy (attemptOf v count x) b ≡ movedTo n (endsOf end) (flaggedOf end) (entryBehind (attemptOf v count x) (b .index)) b
     moved-same x b at n end submitted index offset says =
         let a = attemptOf v count x in
-        let behind = behindOf a (b .index) in
-        let ended = isEnd a (b .index) (b .offset) (b .submitted) in
-        let flagged = ended && isFlagged a (b .index) in
-        let bytes : bytesOf a (b .index) (b .offset) (b .submitted) ≡ n = rw (← index, ← offset, ← submitted) (sym (says .0)) in
+        let behind = entryBehind a (b .index) in
+        let ended = endsEntry a (b .index) (b .offset) (b .submitted) in
+        let flagged = ended && entryFlagged a (b .index) in
+        let bytes : pieceBytes a (b .index) (b .offset) (b .submitted) ≡ n = rw (← index, ← offset, ← submitted) (sym (says .0)) in
         let ends : ended ≡ endsOf end = rw (← index, ← offset, ← submitted) (says .1) in
         let flags : flagged ≡ flaggedOf end = rw (← index, ← offset, ← submitted) (says .2) in
         ap (λ (k : ℕ). movedTo k ended flagged behind b) bytes
@@ -231,7 +231,7 @@ module _ (F : Type 0) where
         let b = a .book in
         let long : listSize ≤ length (x .list) = omega (arith, t .sized) in
         let y = movedOf g x at n end in
-        let c = movedTo n (endsOf end) (flaggedOf end) (behindOf (attemptOf v count x) (b .index)) b in
+        let c = movedTo n (endsOf end) (flaggedOf end) (entryBehind (attemptOf v count x) (b .index)) b in
         let ps = c .pending in
         let valid : validOf (y .stream) (y .list) ≡ true =
         parts-valid _ _ (moved-kept g count byte x at n end more k (long, valid-parts s (x .list) (t .valid)) .1) in

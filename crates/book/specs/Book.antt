@@ -3,7 +3,7 @@ use Prim.Native.Nat.{ℕ, _+_, _-_, max}
 use mathlib.Core.Bool.{Bool, cond, _&&_}
 use mathlib.Core.List.{List, [], _∷_, _++_}
 use lib.Dec.{leb}
-use Rattle.book.specs.Buffers.{Attempt, isFlagged, bytesOf, isEnd, behindOf}
+use Rattle.book.specs.Buffers.{Attempt, entryFlagged, pieceBytes, endsEntry, entryBehind}
 
 pub record Book : Type 0 where
   pub submitted : ℕ
@@ -62,8 +62,8 @@ movedTo n ended flagged behind b =
 
 abbrev pub movedBy : Attempt → Book → Book
 movedBy a b =
-    let ended = isEnd a (b .index) (b .offset) (b .submitted) in
-    movedTo (bytesOf a (b .index) (b .offset) (b .submitted)) ended (ended && isFlagged a (b .index)) (behindOf a (b .index)) b
+    let ended = endsEntry a (b .index) (b .offset) (b .submitted) in
+    movedTo (pieceBytes a (b .index) (b .offset) (b .submitted)) ended (ended && entryFlagged a (b .index)) (entryBehind a (b .index)) b
 
 -- consumed moves: what is pending up to there retires, in order
 abbrev pub consumedTo : ℕ → Book → Book

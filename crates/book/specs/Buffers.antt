@@ -14,25 +14,25 @@ pub record Attempt : Type 0 where
   pub memory : List ℕ
 
 -- The descriptor of an index: 16 bytes in a list on a 128-byte boundary, the buffer's address, its length, and flags of which bit 0 asks for a completion.
-abbrev pub placeOf : Attempt → ℕ → ℕ
-placeOf a index = a .base / 128 * 128 + 16 * index
+abbrev pub entryPlace : Attempt → ℕ → ℕ
+entryPlace a index = a .base / 128 * 128 + 16 * index
 
-abbrev pub addressOf : Attempt → ℕ → ℕ
-addressOf a index = wordAt 8 (placeOf a index) (a .memory)
+abbrev pub entryAddress : Attempt → ℕ → ℕ
+entryAddress a index = wordAt 8 (entryPlace a index) (a .memory)
 
-abbrev pub lengthOf : Attempt → ℕ → ℕ
-lengthOf a index = wordAt 4 (placeOf a index + 8) (a .memory)
+abbrev pub entryLength : Attempt → ℕ → ℕ
+entryLength a index = wordAt 4 (entryPlace a index + 8) (a .memory)
 
-abbrev pub isFlagged : Attempt → ℕ → Bool
-isFlagged a index = eqb (wordAt 4 (placeOf a index + 12) (a .memory) % 2) 1
+abbrev pub entryFlagged : Attempt → ℕ → Bool
+entryFlagged a index = eqb (wordAt 4 (entryPlace a index + 12) (a .memory) % 2) 1
 
 -- the bytes of the piece: up to the end of the transfer, of the descriptor's buffer or of the cyclic buffer, whichever comes first
-abbrev pub bytesOf : Attempt → ℕ → ℕ → ℕ → ℕ
-bytesOf a index offset submitted = min (min (a .left) (lengthOf a index - offset)) (a .cyclic - submitted % a .cyclic)
+abbrev pub pieceBytes : Attempt → ℕ → ℕ → ℕ → ℕ
+pieceBytes a index offset submitted = min (min (a .left) (entryLength a index - offset)) (a .cyclic - submitted % a .cyclic)
 
 -- whether it ends its descriptor, and the descriptor behind that one: the first again behind the last
-abbrev pub isEnd : Attempt → ℕ → ℕ → ℕ → Bool
-isEnd a index offset submitted = eqb (offset + bytesOf a index offset submitted) (lengthOf a index)
+abbrev pub endsEntry : Attempt → ℕ → ℕ → ℕ → Bool
+endsEntry a index offset submitted = eqb (offset + pieceBytes a index offset submitted) (entryLength a index)
 
-abbrev pub behindOf : Attempt → ℕ → ℕ
-behindOf a index = cond (eqb index (a .last)) 0 (index + 1)
+abbrev pub entryBehind : Attempt → ℕ → ℕ
+entryBehind a index = cond (eqb index (a .last)) 0 (index + 1)

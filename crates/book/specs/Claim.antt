@@ -50,12 +50,12 @@ pub data Starts : Machine → Type 0 where
       → Starts (made microphone h lists queues memory)
   restored : (s : List ℕ) (x : Machine) → Accepts s x → Starts (after (calls.restore s) x)
 
--- the book's start, for one stream: a new device's is empty; a restored one's is what the accepted restore makes of any book, the state's counts and positions
+-- says where the book of one stream starts: a new device's is empty; a restored one's is what the accepted restore makes of any book, the state's counts and positions
 pub record Opens (i : ℕ) : Type 0 where
   pub fresh : (microphone : Bool) (h : Host) (lists queues memory : List ℕ) → openingOf i (made microphone h lists queues memory) ≡ book.made
   pub resumed : (s : List ℕ) (x : Machine) → Accepts s x → (b : Book) → openingOf i (after (calls.restore s) x) ≡ note (restoredEvent s i) b
 
--- after the list, for one stream
+-- says what holds of one stream after the list
 pub record Agrees (i : ℕ) (cs : List Step) (x : Machine) : Type 0 where
   -- counts and pending completions are the book's
   pub submitted : streamAt (run cs x .hda) i .submitted ≡ bookOf i cs x .submitted

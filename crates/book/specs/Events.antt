@@ -47,7 +47,7 @@ use Rattle.book.specs.Book.{Event, reset, restored, moved, updated, fail
 abbrev pub onlyIf : Bool → List Event → List Event
 onlyIf b es = cond b es []
 
--- What the book has for a turn of stream i from its number, from the downstream count that the call was handed, and from the stream's registers (HDA 1.0a 3.3.38 to 3.3.42), not from what the turn makes of these.
+-- What the book has for a turn of stream i from its number, from the downstream count that the call was handed, and from the stream's registers (HDA 1.0a 3.3.38 to 3.3.43), not from what the turn makes of these.
 pub record Given : Type 0 where
   pub capture : Bool
   pub downstream : ℕ
@@ -130,13 +130,13 @@ servedEvents v g rate nanos x =
 
 -- an unsupported format serves nothing, nor does a refused opening
 abbrev pub openedEvents : Given → List ℕ → Codec → ℕ → ℕ → ℕ → ℕ → Stream → List ℕ → List ℕ → List ℕ → Opening → List Event
-openedEvents v regs codec i rate nanos limit s l part m o =
-    cond (o .ok) (servedEvents v (setupOf regs codec i (o .host .downstream) limit) rate nanos (workOf (engineOf regs (o .host) i s) l part m)) (refused ∷ [])
+openedEvents v regs codec i rate nanos room s l part m o =
+    cond (o .ok) (servedEvents v (setupOf regs codec i (o .host .downstream) room) rate nanos (workOf (engineOf regs (o .host) i s) l part m)) (refused ∷ [])
 
 abbrev pub formattedEvents : Given → List ℕ → Codec → Host → Bool → ℕ → ℕ → ℕ → Stream → List ℕ → List ℕ → List ℕ → Format → List Event
-formattedEvents v regs codec h microphone i nanos limit s l part m Unsupported = []
-formattedEvents v regs codec h microphone i nanos limit s l part m (Rate rate) =
-    openedEvents v regs codec i rate nanos limit s l part m (openStreamOf h microphone i)
+formattedEvents v regs codec h microphone i nanos room s l part m Unsupported = []
+formattedEvents v regs codec h microphone i nanos room s l part m (Rate rate) =
+    openedEvents v regs codec i rate nanos room s l part m (openStreamOf h microphone i)
 
 unfoldable pub turnEvents : ℕ → ℕ → ℕ → Machine → List Event
 turnEvents downstream nanos i x =

@@ -5,23 +5,23 @@ use mathlib.Core.Bool.{Bool, true, false, not, _&&_, _||_}
 use mathlib.Core.List.{List, [], _∷_}
 use lib.Dec.{eqb, leb, ltb}
 use lib.ListN.{length}
-use Rattle.book.specs.Buffers.{Attempt, placeOf, addressOf, lengthOf, isFlagged, bytesOf, isEnd}
+use Rattle.book.specs.Buffers.{Attempt, entryPlace, entryAddress, entryLength, entryFlagged, pieceBytes, endsEntry}
 use Rattle.book.specs.Book.{Book, limit, Event, reset, restored, moved, updated, failed, refused, note}
 
 -- Each reason as a test: the cyclic length is 0 or no multiple of 4, the last index is above 255, the descriptor's index is above the last; memory has no such descriptor; its length is 0 or no multiple of 4,
 -- the offset reaches it; memory does not have the bytes; submitted would pass its largest value. An address past 64 bits is one that memory does not have.
 abbrev pub reasonsOf : Attempt → ℕ → ℕ → ℕ → List Bool
 reasonsOf a index offset submitted =
-    let n = bytesOf a index offset submitted in
+    let n = pieceBytes a index offset submitted in
     eqb (a .cyclic) 0
     ∷ not (eqb (a .cyclic % 4) 0)
     ∷ ltb 255 (a .last)
     ∷ ltb (a .last) index
-    ∷ ltb (length (a .memory)) (placeOf a index + 16)
-    ∷ eqb (lengthOf a index) 0
-    ∷ not (eqb (lengthOf a index % 4) 0)
-    ∷ leb (lengthOf a index) offset
-    ∷ ltb (length (a .memory)) (addressOf a index + (offset + n))
+    ∷ ltb (length (a .memory)) (entryPlace a index + 16)
+    ∷ eqb (entryLength a index) 0
+    ∷ not (eqb (entryLength a index % 4) 0)
+    ∷ leb (entryLength a index) offset
+    ∷ ltb (length (a .memory)) (entryAddress a index + (offset + n))
     ∷ ltb 0xffff_ffff_ffff_ffff (submitted + n)
     ∷ []
 
@@ -34,7 +34,7 @@ isReason a index offset submitted = anyOf (reasonsOf a index offset submitted)
 
 -- the limit: the piece ends a flagged descriptor, and 4,352 are pending
 unfoldable pub isLimit : Attempt → ℕ → ℕ → ℕ → ℕ → Bool
-isLimit a index offset submitted pending = isEnd a index offset submitted && (isFlagged a index && leb limit pending)
+isLimit a index offset submitted pending = endsEntry a index offset submitted && (entryFlagged a index && leb limit pending)
 
 -- one of these, or one of the first alone, by the book as it then was
 abbrev pub isUnlimited : Attempt → Book → Bool

@@ -27,7 +27,7 @@ use Rattle.lent_book.specs.Lists.{Step, handed, run, streamIn, pendingIn
 abbrev pub Accepted : List ℕ → Lent → Type 0
 Accepted s x = callOf (on (calls.restore s)) x .reply % 256 ≡ 0
 
--- what types say of all that is lent
+-- what types say of all that is lent; of the lists nothing is asked
 pub record Lends (x : Lent) : Type 0 where
   pub device : Bytes (x .device)
   pub host : Bytes (x .host)
@@ -39,7 +39,7 @@ pub data Starts : Lent → Type 0 where
   made : (microphone : Bool) (x : Lent) → newReply microphone x ≡ 0 → Starts (after (new microphone) x)
   restored : (s : List ℕ) (x : Lent) → Bytes s → Lends x → Accepted s x → Starts (after (on (calls.restore s)) x)
 
--- the book's start, for one stream
+-- says where the book of one stream starts
 pub record Opens (i : ℕ) : Type 0 where
   -- hda_new returns 0 on bytes as long as a record, with lists and queues that are long enough; the book is then empty
   pub begins : (microphone : Bool) (x : Lent) → length (x .device) ≡ deviceSize → listSize * streams ≤ length (x .lists) → capacity * streams ≤ length (x .queues) → newReply microphone x ≡ 0
@@ -47,7 +47,7 @@ pub record Opens (i : ℕ) : Type 0 where
   -- an accepted hda_restore: the state's counts and positions, as it makes them of any book
   pub resumed : (s : List ℕ) (x : Lent) → Bytes s → Lends x → Accepted s x → (b : Book) → openingIn i (after (on (calls.restore s)) x) ≡ note (restoredEvent s i) b
 
--- after the list, for one stream
+-- says what holds of one stream after the list
 pub record Agrees (i : ℕ) (cs : List Step) (x : Lent) : Type 0 where
   -- the device's bytes are a record, and the next call passes its check wherever the host end and the queues that it is handed do: what the calls left is never refused
   pub readable : isDevice (run cs x .device) ≡ true

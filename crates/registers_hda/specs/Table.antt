@@ -17,7 +17,7 @@ pub record Row : Type 0 where
   pub written : ℕ
   -- .. that it clears by a one (RW1C)
   pub cleared : ℕ
-  -- .. and that the controller drives: status and counts, also those that software clears
+  -- .. and that the controller drives: status and counts, also those that software clears, and the flush and run bits that it clears itself
   pub driven : ℕ
   pub reset : ℕ
 
@@ -60,7 +60,7 @@ globalRows =
     ∷ row "VMAJ" 0x03 1 0 0 0 1
     ∷ row "OUTPAY" 0x04 2 0 0 0 60
     ∷ row "INPAY" 0x06 2 0 0 0 29
-    ∷ row "GCTL" 0x08 4 0x103 0 0 0
+    ∷ row "GCTL" 0x08 4 0x103 0 0x2 0
     ∷ row "WAKEEN" 0x0c 2 0x7fff 0 0 0
     ∷ row "STATESTS" 0x0e 2 0 0x7fff 0x7fff 0
     ∷ row "GSTS" 0x10 2 0 0x2 0x2 0
@@ -95,7 +95,7 @@ globalRows =
 abbrev pub streamRows : ℕ → List Row
 streamRows i =
     let base : ℕ = 0x80 + 0x20 * i in
-    row "SDCTL" base 3 0xf4_001f 0 0 0
+    row "SDCTL" base 3 0xf4_001f 0 0x2 0
     ∷ row "SDSTS" (base + 0x03) 1 0 0x1c 0x3c 0
     ∷ row "SDLPIB" (base + 0x04) 4 0 0 (all 4) 0
     ∷ row "SDCBL" (base + 0x08) 4 (all 4) 0 0 0
