@@ -60,11 +60,11 @@ givenOf i downstream regs =
     record { capture = captures i; downstream = downstream; base = wordAt 8 (bdpl i) regs; cyclic = wordAt 4 (cbl i) regs; last = wordAt 2 (lvi i) regs }
 
 -- ---- a transfer: its pieces, and that it failed
--- a piece that is to move next, of a transfer of `count` bytes in the state x
+-- what the book is told of the piece that is to move next, of a transfer of `count` bytes in the state x
 abbrev pub attemptOf : Given → ℕ → State → Attempt
 attemptOf v count x = record { base = v .base; cyclic = v .cyclic; last = v .last; left = count - x .done; memory = x .memory }
 
--- whether it is to move and does
+-- whether there is one, and it moves
 abbrev pub goesOn : Cyclic → ℕ → State → Bool
 goesOn g count x = ltb (x .done) count && pieceOf g count x .ok
 

@@ -36,7 +36,7 @@ isReason a index offset submitted = anyOf (reasonsOf a index offset submitted)
 unfoldable pub isLimit : Attempt → ℕ → ℕ → ℕ → ℕ → Bool
 isLimit a index offset submitted pending = endsEntry a index offset submitted && (entryFlagged a index && leb limit pending)
 
--- one of these, or one of the first alone, by the book as it then was
+-- a reason holds, and a reason or the limit does, by the book as it then was
 abbrev pub isUnlimited : Attempt → Book → Bool
 isUnlimited a b = isReason a (b .index) (b .offset) (b .submitted)
 
