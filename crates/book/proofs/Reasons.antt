@@ -137,6 +137,32 @@ module _ (v : Given) (s : Stream) (m : List ℕ) (left : ℕ) where
   pub unmoved-reasoned : moves (planOf (bufferOf v) s m left) ≡ false → Reasoned
   unmoved-reasoned e = reasoned (λ c unlimited. true≢false (sym (clear-moves unlimited c) ∙ e))
 
+  -- ---- a plan: its tests one after the other, and then how the piece ends
+  record Passed : Type 0 where
+    listed : ltb (v .last) (s .descriptor) ≡ false
+    there : leb (entryPlace attempt (s .descriptor) + 16) (length m) ≡ true
+    long : eqb (entryLength attempt (s .descriptor)) 0 ≡ false
+    even : eqb (entryLength attempt (s .descriptor) % 4) 0 ≡ true
+    inside : ltb (s .offset) (entryLength attempt (s .descriptor)) ≡ true
+    held : leb (entryAddress attempt (s .descriptor) + (s .offset + pieceBytes attempt (s .descriptor) (s .offset) (s .submitted))) (length m) ≡ true
+    counted : leb (s .submitted + pieceBytes attempt (s .descriptor) (s .offset) (s .submitted)) maxCount ≡ true
+
+  plan-by : (P : Plan → Type 0) → P Failed
+      → (Passed → P (endOf s (entryAt m (entryPlace attempt (s .descriptor))) (pieceBytes attempt (s .descriptor) (s .offset) (s .submitted)))) → P (planOf (bufferOf v) s m left)
+  unfolding planOf descriptorOf entryAt entryOf placedOf
+  plan-by P stops ends =
+      let n = pieceBytes attempt (s .descriptor) (s .offset) (s .submitted) in
+      let size = length m in
+      by-cond P (ltb (v .last) (s .descriptor)) Failed _ (λ _. stops)
+      (λ listed. by-cond (λ f. P (fetchedOf (bufferOf v) s size left f)) (leb (entryPlace attempt (s .descriptor) + 16) size) _ Outside
+      (λ there. by-cond P (eqb (entryLength attempt (s .descriptor)) 0) Failed _ (λ _. stops)
+      (λ long. by-cond P (eqb (entryLength attempt (s .descriptor) % 4) 0) _ Failed
+      (λ even. by-cond P (ltb (s .offset) (entryLength attempt (s .descriptor))) _ Failed
+      (λ inside. by-cond P (leb (entryAddress attempt (s .descriptor) + (s .offset + n)) size) _ Failed
+      (λ held. by-cond P (leb (s .submitted + n) maxCount) _ Failed
+      (λ counted. ends (record { listed = listed; there = there; long = long; even = even; inside = inside; held = held; counted = counted }))
+      (λ _. stops)) (λ _. stops)) (λ _. stops)) (λ _. stops))) (λ _. stops))
+
   -- ---- what a piece that moves is: its bytes, whether it ends its descriptor, and whether that end is flagged
   abbrev pub Says : Plan → Type 0
   Says Failed = Unit {0}
@@ -146,23 +172,14 @@ module _ (v : Given) (s : Stream) (m : List ℕ) (left : ℕ) where
       (n ≡ pieceBytes attempt (s .descriptor) (s .offset) (s .submitted)) × (ended ≡ endsOf end) × (ended && entryFlagged attempt (s .descriptor) ≡ flaggedOf end)
 
   pub plan-says : Says (planOf (bufferOf v) s m left)
-  unfolding planOf descriptorOf entryAt entryOf placedOf endOf
+  unfolding entryAt endOf
   plan-says =
-      let size = length m in
-      let n = pieceBytes attempt (s .descriptor) (s .offset) (s .submitted) in
-      by-cond Says (ltb (v .last) (s .descriptor)) Failed _ (λ _. tt)
-      (λ _. by-cond (λ f. Says (fetchedOf (bufferOf v) s size left f)) (leb (entryPlace attempt (s .descriptor) + 16) size) _ Outside
-      (λ _. by-cond Says (eqb (entryLength attempt (s .descriptor)) 0) Failed _ (λ _. tt)
-      (λ _. by-cond Says (eqb (entryLength attempt (s .descriptor) % 4) 0) _ Failed
-      (λ _. by-cond Says (ltb (s .offset) (entryLength attempt (s .descriptor))) _ Failed
-      (λ _. by-cond Says (leb (entryAddress attempt (s .descriptor) + (s .offset + n)) size) _ Failed
-      (λ _. by-cond Says (leb (s .submitted + n) maxCount) _ Failed
+      plan-by Says tt
       (λ _. by-cond Says (endsEntry attempt (s .descriptor) (s .offset) (s .submitted)) _ _
       (λ ends. by-cond Says (entryFlagged attempt (s .descriptor)) _ _
       (λ flagged. by-cond Says (ltb (s .pending) places) _ Full (λ _. (refl, ends, rw (ends, flagged))) (λ _. tt))
       (λ plain. (refl, ends, rw (ends, plain))))
       (λ inside. (refl, inside, rw inside)))
-      (λ _. tt)) (λ _. tt)) (λ _. tt)) (λ _. tt))) (λ _. tt))
 
   -- ---- and the other way round: where the buffer is taken and the piece moves, nothing speaks against it
   abbrev Reason : Bool
@@ -175,30 +192,24 @@ module _ (v : Given) (s : Stream) (m : List ℕ) (left : ℕ) where
   stops e = absurd (true≢false (sym e))
 
   taken-quiet : eqb (v .cyclic) 0 ≡ false → eqb (v .cyclic % 4) 0 ≡ true → leb (v .last) 255 ≡ true → Quiet (planOf (bufferOf v) s m left)
-  unfolding planOf descriptorOf entryAt entryOf placedOf endOf isReason isLimit
+  unfolding entryAt endOf isReason isLimit
   taken-quiet some whole byte =
       let n = pieceBytes attempt (s .descriptor) (s .offset) (s .submitted) in
       let size = length m in
-      by-cond Quiet (ltb (v .last) (s .descriptor)) Failed _ (λ _. stops)
-      (λ listed. by-cond (λ f. Quiet (fetchedOf (bufferOf v) s size left f)) (leb (entryPlace attempt (s .descriptor) + 16) size) _ Outside
-      (λ there. by-cond Quiet (eqb (entryLength attempt (s .descriptor)) 0) Failed _ (λ _. stops)
-      (λ long. by-cond Quiet (eqb (entryLength attempt (s .descriptor) % 4) 0) _ Failed
-      (λ even. by-cond Quiet (ltb (s .offset) (entryLength attempt (s .descriptor))) _ Failed
-      (λ inside. by-cond Quiet (leb (entryAddress attempt (s .descriptor) + (s .offset + n)) size) _ Failed
-      (λ held. by-cond Quiet (leb (s .submitted + n) maxCount) _ Failed
-      (λ counted.
+      plan-by Quiet stops
+      (λ c.
       let free : isReason attempt (s .descriptor) (s .offset) (s .submitted) ≡ false =
       rw (
         some,
         whole,
         le-ltb 255 (v .last) (leb-true (v .last) 255 byte),
-        listed,
-        le-ltb size (entryPlace attempt (s .descriptor) + 16) (leb-true (entryPlace attempt (s .descriptor) + 16) size there),
-        long,
-        even,
-        lt-leb (entryLength attempt (s .descriptor)) (s .offset) (ltb-true (s .offset) (entryLength attempt (s .descriptor)) inside),
-        le-ltb size (entryAddress attempt (s .descriptor) + (s .offset + n)) (leb-true (entryAddress attempt (s .descriptor) + (s .offset + n)) size held),
-        le-ltb maxCount (s .submitted + n) (leb-true (s .submitted + n) maxCount counted),
+        c .listed,
+        le-ltb size (entryPlace attempt (s .descriptor) + 16) (leb-true (entryPlace attempt (s .descriptor) + 16) size (c .there)),
+        c .long,
+        c .even,
+        lt-leb (entryLength attempt (s .descriptor)) (s .offset) (ltb-true (s .offset) (entryLength attempt (s .descriptor)) (c .inside)),
+        le-ltb size (entryAddress attempt (s .descriptor) + (s .offset + n)) (leb-true (entryAddress attempt (s .descriptor) + (s .offset + n)) size (c .held)),
+        le-ltb maxCount (s .submitted + n) (leb-true (s .submitted + n) maxCount (c .counted)),
       ) in
       by-cond Quiet (eqb (s .offset + n) (entryLength attempt (s .descriptor))) _ _
       (λ ends. by-cond Quiet (entryFlagged attempt (s .descriptor)) _ _
@@ -206,7 +217,6 @@ module _ (v : Given) (s : Stream) (m : List ℕ) (left : ℕ) where
       (λ room _. rw (free, ends, flagged, lt-leb limit (s .pending) (omega (arith, ltb-true (s .pending) places room)))) (λ _ e. absurd (true≢false (sym e))))
       (λ plain _. rw (free, ends, plain)))
       (λ inside _. rw (free, inside)))
-      (λ _. stops)) (λ _. stops)) (λ _. stops)) (λ _. stops))) (λ _. stops))
 
   ready-quiet : readyOf (bufferOf v) ≡ true → Quiet (planOf (bufferOf v) s m left)
   unfolding readyOf
