@@ -4,3 +4,4 @@ pub mod Agreement
 pub mod Witnesses
 pub mod Coverage
 pub mod Resets
+pub mod Rates

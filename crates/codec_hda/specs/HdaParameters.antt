@@ -1,9 +1,10 @@
 -- The codec described in HDA 1.0a's own terms: each parameter's layout (7.3.4), and what this codec's nodes declare in it.
 -- Written from the specification's tables; proofs/Agreement says that the device's replies are these.
-use Prim.Native.Nat.{ℕ, _+_, _*_, _^_}
-use mathlib.Core.Bool.{cond}
+use Prim.Native.Nat.{ℕ, _+_, _*_, _/_, _%_, _^_}
+use mathlib.Core.Bool.{Bool, cond, _&&_}
 use mathlib.Core.List.{List, [], _∷_}
 use lib.Dec.{eqb}
+use Rattle.format.specs.Format.{among}
 use Rattle.node.specs.Parameters.{Row, row, look}
 
 -- a word with these bits set
@@ -78,18 +79,34 @@ powerControl = 10
 abbrev pub swap : ℕ
 swap = 11
 
--- 7.3.4.7: sample sizes and rates, a bit each
-abbrev pub rate44100 : ℕ
-rate44100 = 5
+-- 7.3.4.7: a bit for each rate, in frames a second, from bit 0 on, and one for each sample size from bit 16 on
+abbrev pub sampleRates : List ℕ
+sampleRates =
+    8_000 ∷ 11_025 ∷ 16_000 ∷ 22_050 ∷ 32_000 ∷ 44_100 ∷ 48_000 ∷ 88_200 ∷ 96_000 ∷ 176_400 ∷ 192_000 ∷ 384_000 ∷ []
 
-abbrev pub rate48000 : ℕ
-rate48000 = 6
+abbrev pub sampleSizes : List ℕ
+sampleSizes = 8 ∷ 16 ∷ 20 ∷ 24 ∷ 32 ∷ []
 
-abbrev pub rate96000 : ℕ
-rate96000 = 8
+abbrev pub placeIn : List ℕ → ℕ → ℕ
+placeIn [] x = 0
+placeIn (y ∷ ys) x = cond (eqb x y) 0 (1 + placeIn ys x)
 
-abbrev pub size16 : ℕ
-size16 = 17
+abbrev pub rateBit : ℕ → ℕ
+rateBit rate = placeIn sampleRates rate
+
+abbrev pub sizeBit : ℕ → ℕ
+sizeBit size = 16 + placeIn sampleSizes size
+
+-- the nodes that have formats: the function group and both converters
+abbrev pub formatNodes : List ℕ
+formatNodes = 1 ∷ 2 ∷ 4 ∷ []
+
+-- whether a reply declares a rate, or a sample size
+abbrev pub declaresRate : ℕ → ℕ → Bool
+declaresRate reply rate = among rate sampleRates && eqb (reply / 2 ^ rateBit rate % 2) 1
+
+abbrev pub declaresSize : ℕ → ℕ → Bool
+declaresSize reply size = among size sampleSizes && eqb (reply / 2 ^ sizeBit size % 2) 1
 
 -- 7.3.4.8: stream formats
 abbrev pub pcm : ℕ
@@ -122,12 +139,12 @@ amplifier size steps offset = 2 ^ 31 + size * 2 ^ 16 + steps * 2 ^ 8 + offset
 abbrev pub powerStates : ℕ
 powerStates = bits (0 ∷ 1 ∷ 2 ∷ 3 ∷ [])
 
--- ---- this codec: 74 steps of 1 dB up to 0 dB, 16-bit samples at three rates
+-- ---- this codec: 74 steps of 1 dB up to 0 dB, 16-bit samples at four rates, of which T-01 has asked for 88,200
 abbrev pub steps : ℕ
 steps = amplifier 3 74 74
 
 abbrev pub rates : ℕ
-rates = bits (rate44100 ∷ rate48000 ∷ rate96000 ∷ size16 ∷ [])
+rates = bits (rateBit 44_100 ∷ rateBit 48_000 ∷ rateBit 88_200 ∷ rateBit 96_000 ∷ sizeBit 16 ∷ [])
 
 -- what each node declares, by parameter number
 abbrev pub root : List Row

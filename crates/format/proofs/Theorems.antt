@@ -7,6 +7,7 @@ use mathlib.Core.Option.{Option, none, some}
 use Prim.Native.Nat.{ℕ, _+_, _*_, _/_, _%_, _≤_, _<_}
 use native.Mathlib.Omega.{arith}
 use lib.Dec.{T, eqb, leb, ltb, lit<, eqb→eq, leb→le, ltb→lt}
+use lib.Ieee.Bits.{is-true}
 use lib.Ieee.Fits.{and-l, and-r}
 use borrow.Author.Tests.{eqb-true, eqb-false, ne-eqb}
 use Rattle.word.proofs.Choices.{by-test, by-either}
@@ -14,7 +15,7 @@ use Rattle.format.specs.declared.Format.{Format}
 use Rattle.format.specs.declared.Format.the-variants.{Unsupported, Rate}
 use Rattle.format.specs.Hda.{Pcm, pcmOf}
 use Rattle.format.specs.Format.{rates, among, stereo16, ratedOf, restricted, formatOf}
-use Rattle.format.specs.Accepted.{acceptedWords, listed}
+use Rattle.format.specs.Accepted.{acceptedWords, listed, Accepted}
 use Rattle.format.proofs.Computed.{every, below}
 use Rattle.format.proofs.Laws.{refused, low-byte}
 
@@ -58,15 +59,15 @@ accepted w l =
     let other = eqb-false (w % 256) 0x11 e in
     sym (refused w (not-eq-not {b = false} .0 (λ h. other (low-byte w h)))) ∙ not-listed w acceptedWords tt other)
 
--- document 01, Worked by hand: 88,200 frames a second; a reserved multiplier; mono; not PCM
-pub refused-words : (formatOf 0x4811 ≡ Unsupported) × (formatOf 0x2011 ≡ Unsupported) × (formatOf 0x0010 ≡ Unsupported) × (formatOf 0x8011 ≡ Unsupported)
-refused-words =
-    (accepted 0x4811 (lit< tt), accepted 0x2011 (lit< tt), accepted 0x0010 (lit< tt), accepted 0x8011 (lit< tt))
+-- document 01, Worked by hand, without the word that T-01 accepts: a reserved multiplier; mono; not PCM
+pub refused-words : (formatOf 0x2011 ≡ Unsupported) × (formatOf 0x0010 ≡ Unsupported) × (formatOf 0x8011 ≡ Unsupported)
+refused-words = (accepted 0x2011 (lit< tt), accepted 0x0010 (lit< tt), accepted 0x8011 (lit< tt))
 
 -- ---- the accepted rates
 
 module _ (p : ℕ → Bool) where
-  on-list : (x : ℕ) (ys : List ℕ) → T (every p ys) → among x ys ≡ true → T (p x)
+  -- what holds of each number of a list holds of a number that is on it
+  pub on-list : (x : ℕ) (ys : List ℕ) → T (every p ys) → among x ys ≡ true → T (p x)
   on-list x [] t h = absurd (true≢false (sym h))
   on-list x (y ∷ ys) t h =
       by-either (eqb x y) (among x ys)
@@ -102,3 +103,24 @@ pub rate-bound : (w r : ℕ) → formatOf w ≡ Rate r → (0 < r) × (r ≤ 96_
 rate-bound w r e =
     let t = every-rate (λ r. ltb 0 r && leb r 96_000) tt w r e in
     (ltb→lt 0 r (and-l (ltb 0 r) (leb r 96_000) t), leb→le r 96_000 (and-r (ltb 0 r) (leb r 96_000) t))
+
+-- the first word of the table with a rate, and whether the table has one
+abbrev wordFor : ℕ → List (ℕ × ℕ) → ℕ
+wordFor r [] = 0
+wordFor r (e ∷ es) = cond (eqb r (e .1)) (e .0) (wordFor r es)
+
+abbrev hasWord : ℕ → Bool
+hasWord r = ltb (wordFor r acceptedWords) 65536 && same (listed (wordFor r acceptedWords) acceptedWords) (Rate r)
+
+word-accepted : (r : ℕ) → T (hasWord r) → Accepted r
+word-accepted r t =
+    let w = wordFor r acceptedWords in
+    let l = ltb→lt w 65536 (and-l (ltb w 65536) (same (listed w acceptedWords) (Rate r)) t) in
+    (w, l, accepted w l ∙ same→eq (listed w acceptedWords) (Rate r) (and-r (ltb w 65536) (same (listed w acceptedWords) (Rate r)) t))
+
+-- the list has exactly the rates of accepted words
+pub rates-exact : (r : ℕ) → (among r rates ≡ true → Accepted r) × (Accepted r → among r rates ≡ true)
+rates-exact r = (
+  (λ on. word-accepted r (on-list hasWord r rates tt on)),
+  λ a. is-true (among r rates) (every-rate (λ r. among r rates) tt (a .0) r (a .2)),
+)

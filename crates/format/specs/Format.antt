@@ -10,7 +10,7 @@ use Rattle.format.specs.Hda.{Pcm, pcmOf}
 
 -- the rates of the box, in frames a second: the one list of them
 abbrev pub rates : List ℕ
-rates = 44_100 ∷ 48_000 ∷ 96_000 ∷ []
+rates = 44_100 ∷ 48_000 ∷ 88_200 ∷ 96_000 ∷ []
 
 -- whether a number is on a list
 abbrev pub among : ℕ → List ℕ → Bool

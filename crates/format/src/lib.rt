@@ -52,5 +52,5 @@ fn base_rate(word: u16) -> u32
 fn supported(rate: u32) -> bool
     ensures { λ r. ⌜ r ≡ among rate rates ⌝ }
 {
-    (rate == 44_100) | (rate == 48_000) | (rate == 96_000)
+    (rate == 44_100) | (rate == 48_000) | (rate == 88_200) | (rate == 96_000)
 }
