@@ -1,4 +1,4 @@
-//! Which of document 01's differences a call met. differences.edits marks them; the harness takes the marks after each call.
+//! Which difference between port and Rust a call met: document 01's, and those that requests add. differences.edits marks them; the harness takes the marks after each call.
 use crate::GuestMemory;
 use std::cell::Cell;
 use vm_memory::{GuestAddress, GuestMemory as _};
@@ -13,9 +13,11 @@ pub enum Difference {
     PositionAcrossEnd,
     ResponseAcrossEnd,
     RestoreListLength,
+    Rate88200,
+    RatesReply,
 }
 
-pub const NAMES: [&str; 7] = [
+pub const NAMES: [&str; 9] = [
     "position-write",
     "submitted-overflow",
     "list-full",
@@ -23,21 +25,23 @@ pub const NAMES: [&str; 7] = [
     "position-across-end",
     "response-across-end",
     "restore-list-length",
+    "rate-88200",
+    "rates-reply",
 ];
 
 thread_local! {
     // One harness thread drives its own devices: marks of another thread's device are not its own.
-    static FIRED: Cell<u8> = const { Cell::new(0) };
+    static FIRED: Cell<u16> = const { Cell::new(0) };
 }
 
 impl Difference {
     pub(crate) fn fires(self) {
-        FIRED.set(FIRED.get() | 1 << self as u8);
+        FIRED.set(FIRED.get() | 1 << self as u16);
     }
 }
 
 /// The differences met since the last call of this function, as bits.
-pub fn take() -> u8 {
+pub fn take() -> u16 {
     FIRED.replace(0)
 }
 

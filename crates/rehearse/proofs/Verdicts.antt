@@ -78,17 +78,17 @@ module _ (c : Call) (bytes : List ℕ) (n : ℕ) (x : Lent) (room : List ℕ) wh
     judge-done h j e = ap (partIn n (c .room) x room) e ∙ rw (le-ltb (length (x .memory)) n within, le-ltb (length room) (c .room) h)
 
 module _ (all : List ℕ) (at size : ℕ) (t : Tally) (x : Lent) (room : List ℕ) (t′ : Tally) where
-  pub turn-short : length all - at < 35 → t′ ≡ countedOf t 255 false → progress at size t′ x room ≡ turnOf all (progress at size t x room)
+  pub turn-short : length all - at < 35 → t′ ≡ countedOf t 127 false → progress at size t′ x room ≡ turnOf all (progress at size t x room)
   unfolding turnOf
   turn-short h e = rw (lt-ltb (length all - at) 35 h, e)
 
   module _ (c : Call) (ec : c ≡ callAt at all) (whole : 35 ≤ length all - at) where
-    pub turn-cut : length all - (at + 35) < c .count → t′ ≡ countedOf t 255 false → progress at size t′ x room ≡ turnOf all (progress at size t x room)
+    pub turn-cut : length all - (at + 35) < c .count → t′ ≡ countedOf t 127 false → progress at size t′ x room ≡ turnOf all (progress at size t x room)
     unfolding turnOf
     turn-cut h e = rw (le-ltb (length all - at) 35 whole, ← ec, lt-ltb (length all - (at + 35)) (c .count) h, e)
 
     pub turn-done : c .count ≤ length all - (at + 35) → (n : ℕ) → n ≡ lengthOf c size → (count : ℕ) (j : Judged)
-        → j ≡ judgeOf c (take count (drop (at + 35) all)) n x room → count ≡ c .count → t′ ≡ countedOf t (c .kind) (j .same)
+        → j ≡ judgeOf c (take count (drop (at + 35) all)) n x room → count ≡ c .count → t′ ≡ countedOf t (c .tag) (j .same)
         → progress (at + 35 + c .count) n t′ (j .lent) (j .room) ≡ turnOf all (progress at size t x room)
     unfolding turnOf
     turn-done h n en count j ej ek et =

@@ -1,16 +1,18 @@
 -- A recorded call, and what is made of it.
 use Prim.Native.Nat.{ℕ, _+_, _%_, _^_}
-use mathlib.Core.Bool.{Bool, cond, _&&_}
+use mathlib.Core.Bool.{Bool, true, cond, _&&_}
 use mathlib.Core.List.{List}
-use lib.Dec.{eqb}
+use lib.Dec.{eqb, leb}
 use lib.ListN.{getD}
 use Rattle.word.specs.Place.{wordAt}
 use Rattle.rehearse.specs.declared.call.Call.{Call}
 use Rattle.rehearse.specs.declared.play.Tally.{Tally}
 
+-- the tag is the kind, and 128 more where the amended Rust answered
 unfoldable pub callAt : ℕ → List ℕ → Call
 callAt at b = record {
-  kind = getD b at 0;
+  tag = getD b at 0;
+  kind = getD b at 0 % 128;
   count = wordAt 2 (at + 1) b;
   room = wordAt 4 (at + 3) b;
   first = wordAt 8 (at + 7) b;
@@ -23,11 +25,16 @@ callAt at b = record {
 abbrev pub agreesOf : Call → ℕ → ℕ → Bool
 agreesOf c reply digest = eqb (c .reply) reply && eqb (c .digest) digest
 
--- one call more; kind 0 starts a sequence, and the counts have 64 bits
+-- counts have 64 bits
+abbrev pub nextIf : Bool → ℕ → ℕ
+nextIf more count = cond more ((count + 1) % 2 ^ 64) count
+
+-- one call more; kind 0 starts a sequence
 abbrev pub countedOf : Tally → ℕ → Bool → Tally
-countedOf t kind same = record {
-  calls = (t .calls + 1) % 2 ^ 64;
-  sequences = cond (eqb kind 0) ((t .sequences + 1) % 2 ^ 64) (t .sequences);
+countedOf t tag same = record {
+  calls = nextIf true (t .calls);
+  sequences = nextIf (eqb (tag % 128) 0) (t .sequences);
+  amended = nextIf (leb 128 tag) (t .amended);
   same = same;
 }
 

@@ -98,12 +98,12 @@ progress at size tally x room = record { at = at; size = size; tally = tally; le
 abbrev pub headSize : ℕ
 headSize = 35
 
--- bytes that are no whole call count as one that differs
+-- bytes that are no whole call count as one that differs, by the tag of no call
 abbrev pub cutOf : Progress → Progress
-cutOf p = progress (p .at) (p .size) (countedOf (p .tally) 255 false) (p .lent) (p .room)
+cutOf p = progress (p .at) (p .size) (countedOf (p .tally) 127 false) (p .lent) (p .room)
 
 abbrev pub turnedOf : Call → ℕ → Tally → Judged → ℕ → Progress
-turnedOf c size t j end = progress end size (countedOf t (c .kind) (j .same)) (j .lent) (j .room)
+turnedOf c size t j end = progress end size (countedOf t (c .tag) (j .same)) (j .lent) (j .room)
 
 abbrev pub turnWith : Call → List ℕ → Progress → Progress
 turnWith c all p =
@@ -140,7 +140,7 @@ abbrev pub playedOf : Progress → Played
 playedOf p = played (p .tally) (p .lent) (p .room)
 
 abbrev pub begun : Tally
-begun = record { calls = 0; sequences = 0; same = true }
+begun = record { calls = 0; sequences = 0; amended = 0; same = true }
 
 abbrev pub playOf : List ℕ → Lent → List ℕ → Played
 playOf all x room = playedOf (playFrom (length all) all (progress 0 0 begun x room))

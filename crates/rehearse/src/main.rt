@@ -1,6 +1,7 @@
-// Runs recorded calls of the unchanged Rust device on the proved device, with no Rust at hand. The file `calls` has sequences of calls, each with
-// what the Rust returned and a digest of all that it then held (src/call.rt); `judge record` of rust/harness writes it. The line that is printed says
-// that all were as recorded, or which was the first that was not.
+// Runs recorded calls of the Rust device on the proved device, with no Rust at hand. The file `calls` has sequences of calls, each with what the Rust
+// returned and a digest of all that it then held (src/call.rt); `judge record` of rust/harness writes it. The line that is printed says how many there
+// were, how many of them not the unchanged Rust answered but the amended one, which has the differences, and that all were as recorded, or that the last
+// was not.
 //
 // No contract can say what a file holds. So what is stated is what any bytes give: calls.rt, digest.rt, noise.rt and verdict.rt have it for one call, play.rt
 // for all of them. Of what reads the bytes and prints the tally it is proved that it is safe and ends.
@@ -58,7 +59,9 @@ fn rehearse(data: &[u8]) {
 
 fn print(tally: Tally) {
     io::print_decimal(STDOUT_FILENO, tally.calls);
-    io::write_all(STDOUT_FILENO, b" calls in ");
+    io::write_all(STDOUT_FILENO, b" calls, ");
+    io::print_decimal(STDOUT_FILENO, tally.amended);
+    io::write_all(STDOUT_FILENO, b" of them by the amended Rust, in ");
     io::print_decimal(STDOUT_FILENO, tally.sequences);
     if tally.same {
         io::write_all(STDOUT_FILENO, b" sequences: all as recorded\n");

@@ -4,36 +4,43 @@ use crate::call::Call;
 use crate::verdict;
 ghost use mathlib.Core.Path.{_≡_};
 ghost use Rattle.port_device.specs.Calls.{lent};
-ghost use Rattle.rehearse.specs.Recorded.{countedOf, lengthOf};
+ghost use Rattle.rehearse.specs.Recorded.{nextIf, countedOf, lengthOf};
 ghost use Rattle.rehearse.specs.Verdict.{played, playOf};
 
-// How many calls and sequences there were, and whether all were as recorded.
+// How many calls and sequences there were, how many of the calls the amended Rust had answered, and whether all were as recorded.
 pub struct Tally {
     pub calls: u64,
     pub sequences: u64,
+    pub amended: u64,
     pub same: bool,
 }
 
 impl Tally {
     // One call more; kind 0 starts a sequence.
-    fn counted(self, kind: u8, same: bool) -> Tally
-        ensures { λ r. ⌜ r ≡ countedOf self kind same ⌝ }
+    fn counted(self, tag: u8, same: bool) -> Tally
+        ensures { λ r. ⌜ r ≡ countedOf self tag same ⌝ }
     {
-        let calls = std::num::wrapping_add_u64(self.calls, 1);
-        if kind == 0 {
-            return Tally {
-                calls,
-                sequences: std::num::wrapping_add_u64(self.sequences, 1),
-                same,
-            };
-        }
         Tally {
-            calls,
-            sequences: self.sequences,
+            calls: std::num::wrapping_add_u64(self.calls, 1),
+            sequences: next_if(tag % 128 == 0, self.sequences),
+            amended: next_if(tag >= 128, self.amended),
             same,
         }
     }
 }
+
+// The next count, where there is one more to count.
+fn next_if(more: bool, count: u64) -> u64
+    ensures { λ r. ⌜ r ≡ nextIf more count ⌝ }
+{
+    if more {
+        return std::num::wrapping_add_u64(count, 1);
+    }
+    count
+}
+
+// Bytes that are no whole call are counted by the tag of no call.
+const NO_CALL: u8 = 127;
 
 // Kind 1 says how long guest memory is from then on.
 fn length_of(call: Call, length: usize) -> usize
@@ -60,19 +67,20 @@ pub fn play(
     let mut tally = Tally {
         calls: 0,
         sequences: 0,
+        amended: 0,
         same: true,
     };
     let mut length = 0;
     let mut at = 0;
     while at < all.len() {
         if all.len() - at < call::HEAD {
-            return tally.counted(255, false);
+            return tally.counted(NO_CALL, false);
         }
         let call = call::load(all, at);
         let start = at + call::HEAD;
         let count = call.count as usize;
         if all.len() - start < count {
-            return tally.counted(255, false);
+            return tally.counted(NO_CALL, false);
         }
         let end = start + count;
         length = length_of(call, length);
@@ -87,7 +95,7 @@ pub fn play(
             room,
             length,
         );
-        tally = tally.counted(call.kind, same);
+        tally = tally.counted(call.tag, same);
         if !same {
             return tally;
         }

@@ -146,9 +146,9 @@ fn start(random: &mut Random) -> Lent {
 fn driver_write(random: &mut Random, memory: u64) -> (u64, usize, u64) {
     let (stream, address, any) = (0x80 + 32 * random.below(2), random.below(memory + 256) & !127, random.next_u64());
     let unsolicited = 0x0037_0880 | any & 63;
-    let command = random.pick(&[0x000f_0000, 0x0027_0620, 0x0022_0011, unsolicited]);
+    let command = random.pick(&[0x000f_0000, 0x002f_000a, 0x0027_0620, 0x0022_0011, 0x0022_4811, unsolicited]);
     let cyclic = random.pick(&[64, 1024, 1028, 6, 0]);
-    let format = random.pick(&[0x0011, 0x4011, 0x0811, 0]);
+    let format = random.pick(&[0x0011, 0x4011, 0x0811, 0x4811, 0x5911, 0]);
     random.pick(&[
         (8, 4, 0x101),
         (8, 4, any & 3),

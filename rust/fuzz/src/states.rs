@@ -3,8 +3,8 @@ use crate::any::Lent;
 use port::layout::{LIST, POSITIONS, STREAMS, device, get, host, put, stream};
 use port::number;
 
-/// The words of document 01's list.
-const FORMATS: [u64; 10] = [0x0011, 0x0811, 0x0911, 0x1211, 0x1911, 0x1b11, 0x4011, 0x4911, 0x5211, 0x5b11];
+/// The words of document 01's list, and those of T-01.
+pub const FORMATS: [u64; 12] = [0x0011, 0x0811, 0x0911, 0x1211, 0x1911, 0x1b11, 0x4011, 0x4911, 0x5211, 0x5b11, 0x4811, 0x5911];
 /// A stream's registers, in the registers.
 const fn registers(index: usize) -> usize {
     0x80 + 32 * index

@@ -111,7 +111,7 @@ fn damages() -> Vec<Damage> {
         damages.push(value::<1>("microphone", number::MICROPHONE, 5, device::MICROPHONE, byte));
     }
     for node in [2, 4] {
-        for word in [0, 0x8011, 0x2011, 0x0010, 0x4811] {
+        for word in [0, 0x8011, 0x2011, 0x0010, 0x5811] {
             damages.push(value::<2>(&format!("format of node {node}"), number::FORMAT, 662, device::CODEC + 24 * node + 10, word));
         }
     }
@@ -165,7 +165,7 @@ fn stream_damages(index: usize) -> Vec<Damage> {
         state[REGISTERS[index]] = 2;
         put::<2>(state, REGISTERS[index] + FORMAT, 0);
     }));
-    for word in [0x8011, 0x2011] {
+    for word in [0x8011, 0x2011, 0x5811] {
         damages.push(value::<2>(&format!("format {index}"), number::FORMAT, end, REGISTERS[index] + FORMAT, word));
     }
     damages.push(damage(format!("format {index} of a stream that does not run"), number::FORMAT, end, move |state| {
@@ -365,6 +365,26 @@ fn full_lists() {
         } else {
             assert_eq!(refused(&machine, true, "too many"), number::LIST_LENGTH, "{counts:?}");
         }
+    }
+}
+
+/// Each of the twelve words is taken wherever a state has a format, and no other word is.
+#[test]
+fn every_format_word_in_every_place() {
+    let places = [2, 4].map(|node| device::CODEC + 24 * node + 10).into_iter().chain(REGISTERS.map(|registers| registers + FORMAT));
+    for place in places {
+        let before = lent(true, false, &state());
+        let mut machine = before.clone();
+        for word in 0..=u64::from(u16::MAX) {
+            put::<2>(&mut machine.buffer, place, word);
+            if states::FORMATS.contains(&word) {
+                accepted(machine.clone());
+            } else {
+                assert_eq!(restore(&mut machine).number(), number::FORMAT, "word {word:#06x} at {place}");
+            }
+        }
+        machine.buffer = before.buffer.clone();
+        assert!(machine == before, "refusals change nothing");
     }
 }
 

@@ -59,6 +59,9 @@ impl Coverage {
                 self.count(&format!("{name} {event}"));
             }
         }
+        if moved {
+            self.count(&format!("{name} turn that moved, format {:04x}", after.format));
+        }
     }
 
     pub fn count(&mut self, what: &str) {

@@ -1,14 +1,14 @@
-//! Sets of document 01's differences ("Where port and Rust part").
+//! Sets of the differences between port and Rust: document 01's ("Where port and Rust part"), and those that requests add.
 use amended::differences::NAMES;
 use std::fmt;
 
 /// The differences that a call met.
 #[derive(Clone, Copy, Debug, Default, PartialEq, Eq, PartialOrd, Ord)]
-pub struct Differences(u8);
+pub struct Differences(u16);
 
 impl Differences {
     /// The set in which bit n stands for the n-th name.
-    pub fn from_bits(bits: u8) -> Self {
+    pub fn from_bits(bits: u16) -> Self {
         Self(bits)
     }
 

@@ -52,6 +52,8 @@ pub trait InStep {
     fn new() -> Self;
     /// Makes one call on every side. The answer is given back; where two sides differ, the parting.
     fn step(&mut self, op: &Op) -> Result<Answer, Box<Parting>>;
+    /// Whether the unchanged Rust has judged every call so far.
+    fn is_judged_by_reference(&self) -> bool;
     fn coverage(&mut self) -> &mut Coverage;
 }
 
@@ -88,6 +90,10 @@ impl<L: Side, R: Side> InStep for Lockstep<L, R> {
             }
             _ => Err(Box::new(Parting { sides: [L::NAME, R::NAME], place, op: op.clone(), fired, excusable: true, what })),
         }
+    }
+
+    fn is_judged_by_reference(&self) -> bool {
+        true
     }
 
     fn coverage(&mut self) -> &mut Coverage {

@@ -8,7 +8,7 @@ use harness::ported::Port;
 use harness::record;
 use harness::shrink::shrink;
 use harness::side::Side;
-use harness::trace;
+use harness::trace::{self, Step};
 use harness::trio::Trio;
 use std::collections::BTreeMap;
 use std::io::Write as _;
@@ -18,7 +18,7 @@ use std::time::{Duration, Instant};
 const USAGE: &str = "\
 judge lockstep --first SEED --count N --length L [--tame] [--port]
     N random sequences of L calls, one for each seed from SEED on: the reference against the amended oracle.
-    Fails if they part at a call that met none of document 01's differences. --tame keeps all addresses in range.
+    Fails if they part at a call that met no difference. --tame keeps all addresses in range.
     --port, here and below: the port against the amended oracle, from which it may never part, and against the
     reference until a difference fires.
 judge soak SECONDS [--first SEED] [--port]
@@ -30,10 +30,11 @@ judge shrink SEED LENGTH [--tame] [--port] | judge shrink FILE [--port]
 judge run FILE [--side reference|amended|port]
     Runs an op log and prints each call with its result.
 judge trace FILE [--port]
-    Replays a driver's trace, with time passing between its lines.
+    Replays a driver's trace, with time passing between its lines; then once more with another parameter asked for in the
+    place of the rates, which the unchanged Rust judges to the end.
 judge record FILE
-    Writes the calls that program rehearse runs, with the reference's answers: generated sequences, some written by hand,
-    then the trace of FILE.
+    Writes the calls that program rehearse runs, with the reference's answers, or the amended oracle's where a difference
+    has made the reference part: generated sequences, some written by hand, then the trace of FILE.
 judge --help";
 
 /// Unexplained partings that are shown in full.
@@ -90,7 +91,7 @@ fn compare<T: InStep>(mut options: Options) -> Result<bool, String> {
         "trace" => {
             let text = read(&options.word()?)?;
             options.end()?;
-            replay::<T>(&text)
+            replay_twice::<T>(&text)
         }
         "record" => {
             let text = read(&options.word()?)?;
@@ -304,9 +305,18 @@ fn run_side<S: Side>(ops: &[Op]) {
     }
 }
 
-/// A driver's trace on all sides; the host pulls and feeds as time passes. True if the sides never part.
-fn replay<T: InStep>(text: &str) -> Result<bool, String> {
-    let steps = trace::parse(text)?;
+/// A driver's trace as it is, and once more without the question for the rates, so that the unchanged Rust judges it to the end.
+fn replay_twice<T: InStep>(text: &str) -> Result<bool, String> {
+    let mut steps = trace::parse(text)?;
+    let as_it_is = replay::<T>(&steps);
+    trace::ask_no_rates(&mut steps);
+    let without_rates = replay::<T>(&steps);
+    Ok(as_it_is.is_some() && without_rates == Some(true))
+}
+
+/// A driver's trace on all sides; the host pulls and feeds as time passes. None if the sides part and no difference explains it, else whether the
+/// unchanged Rust judged every call.
+fn replay<T: InStep>(steps: &[Step]) -> Option<bool> {
     let mut sides = T::new();
     let (mut reads, mut as_recorded) = (0, 0);
     let mut calls = vec![(Op::New { microphone: true, memory: TRACE_MEMORY }, None)];
@@ -322,7 +332,7 @@ fn replay<T: InStep>(text: &str) -> Result<bool, String> {
             Ok(answer) => answer,
             Err(parting) => {
                 print!("{parting}");
-                return Ok(false);
+                return parting.is_explained().then_some(false);
             }
         };
         if let Some(step) = read {
@@ -332,6 +342,10 @@ fn replay<T: InStep>(text: &str) -> Result<bool, String> {
         }
     }
     print!("{}", sides.coverage());
-    println!("{} lines, no parting; {as_recorded} of {reads} reads gave the value of the trace, which knows other times", steps.len());
-    Ok(true)
+    let judge = if sides.is_judged_by_reference() { "the unchanged Rust" } else { "the amended oracle from a difference on" };
+    println!(
+        "{} lines, judged by {judge}; {as_recorded} of {reads} reads gave the value of the trace, which knows other times",
+        steps.len()
+    );
+    Some(sides.is_judged_by_reference())
 }

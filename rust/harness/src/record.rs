@@ -1,11 +1,12 @@
-//! What program `rehearse` (crates/rehearse) runs with no Rust at hand: calls with what the unchanged Rust answered to each, as bytes.
+//! What program `rehearse` (crates/rehearse) runs with no Rust at hand: calls with what the Rust answered to each, as bytes.
 //!
-//! A call is 35 bytes, and the bytes that it hands over: 0 kind (1), 1 count of these bytes (2), 3 room for bytes to come (4), 7 first number (8),
-//! 15 second number (8), 23 what it returns (8), 31 digest (4). What it returns is what the port's C function does; the digest is that of the
-//! room and of all that device and host end hold, in the layout of docs/LAYOUT.md, or that of guest memory for the kind that looks at it.
+//! A call is 35 bytes, and the bytes that it hands over: 0 kind and whose answer it is (1), 1 count of these bytes (2), 3 room for bytes to come (4),
+//! 7 first number (8), 15 second number (8), 23 what it returns (8), 31 digest (4). What it returns is what the port's C function does; the digest is that
+//! of the room and of all that device and host end hold, in the layout of docs/LAYOUT.md, or that of guest memory for the kind that looks at it.
 //!
-//! Calls that met a difference of document 01 are not recorded: a sequence ends before its first. States are restored as the generator has them, and at
-//! times the device's own: damaged, so that every number is among the answers, then as it is.
+//! The unchanged Rust answers up to the first call of a sequence at which a difference makes it part; from there on the amended oracle does, and each
+//! such call says so. States are restored as the generator has them, and at times the device's own: damaged, so that every number is among the answers, then
+//! as it is.
 use crate::device::{Amended, Reference};
 use crate::generate::Generator;
 use crate::ops::{Op, execute};
@@ -13,7 +14,7 @@ use crate::refused;
 use crate::scenes;
 use crate::side::{Answer, Direction, Side, View};
 use crate::state::State;
-use crate::trace;
+use crate::trace::{self, Step};
 use port::layout::{self, device, host, put};
 
 /// The kinds of calls, as crates/rehearse/src/calls.rt has them.
@@ -40,38 +41,43 @@ mod kind {
     pub const DOWNSTREAM: u8 = 34;
 }
 
-/// Seeds that are tried, wild and tame by turns; calls of a sequence; and the fewest that are worth recording.
+/// Added to the kind of a call that the amended oracle answered.
+const AMENDED: u8 = 128;
+/// Seeds, wild and tame by turns, and calls of a sequence.
 const SEEDS: u64 = 24;
 const LENGTH: usize = 240;
-const SHORTEST: usize = 120;
 /// Calls between two restores of the device's own state, and the longest state that is restored: one with 32 positions, so that the file stays small.
 const RESTORES: usize = 120;
 const LONGEST: usize = 748 + 8 * 32;
 /// Calls between two looks at guest memory, but in sequences written by hand, which are short: these look after each.
 const LOOKS: usize = 32;
-/// The driver's trace: its guest memory, the lines between two advances, their time, and the lines between two visits of the host.
+/// The driver's trace: its first lines, in which it asks for everything that the codec declares; its guest memory, the lines between two advances,
+/// their time, and the lines between two visits of the host.
+const TRACE_PROBE: usize = 1500;
 const TRACE_MEMORY: usize = 1 << 18;
 const TRACE_LINES: usize = 4;
 const TRACE_TIME: u64 = 400_000;
 const TRACE_VISIT: usize = 40;
 
-/// The recorded sequences: generated ones, those written by hand, then a driver's trace.
+/// The recorded sequences: generated ones, those written by hand, then a driver's trace: its first lines as they are, and all of it without the question
+/// for the rates, which the unchanged Rust answers to the end.
 pub fn record(text: &str) -> Result<Vec<u8>, String> {
     let mut data = Vec::new();
     for seed in 1..=SEEDS {
-        if let Some(sequence) = generated(seed, seed.is_multiple_of(2)) {
-            data.extend(sequence);
-        }
+        data.extend(generated(seed, seed.is_multiple_of(2)));
     }
     for scene in scenes::all() {
-        data.extend(whole(&scene, 1)?);
+        data.extend(sequence(&scene, 1));
     }
-    data.extend(whole(&traced(text)?, LOOKS)?);
+    let mut steps = trace::parse(text)?;
+    data.extend(sequence(&traced(&steps[..steps.len().min(TRACE_PROBE)]), LOOKS));
+    trace::ask_no_rates(&mut steps);
+    data.extend(sequence(&traced(&steps), LOOKS));
     Ok(data)
 }
 
-/// A sequence of a seed up to the first difference, if it is long enough.
-fn generated(seed: u64, tame: bool) -> Option<Vec<u8>> {
+/// A sequence of a seed.
+fn generated(seed: u64, tame: bool) -> Vec<u8> {
     let mut generator = Generator::new(seed, tame);
     let mut recorder = Recorder::new(LOOKS);
     let mut calls = 0;
@@ -80,15 +86,15 @@ fn generated(seed: u64, tame: bool) -> Option<Vec<u8>> {
         if !is_recorded(&op) {
             continue;
         }
-        let Some(answer) = recorder.call(&op) else { break };
+        let answer = recorder.call(&op);
         generator.observe(&op, &answer);
         calls += 1;
-        if calls.is_multiple_of(RESTORES) && recorder.restores(seed as usize * LENGTH / RESTORES + calls / RESTORES).is_none() {
-            break;
+        if calls.is_multiple_of(RESTORES) {
+            recorder.restores(seed as usize * LENGTH / RESTORES + calls / RESTORES);
         }
     }
     recorder.look();
-    (calls >= SHORTEST).then_some(recorder.data)
+    recorder.data
 }
 
 /// Whether there is a kind for the call, and the bytes that it hands over are few enough.
@@ -100,21 +106,21 @@ fn is_recorded(op: &Op) -> bool {
     }
 }
 
-/// A sequence in which no call may meet a difference, with so many calls between two looks at guest memory.
-fn whole(ops: &[Op], looks: usize) -> Result<Vec<u8>, String> {
+/// A sequence that is given, with so many calls between two looks at guest memory.
+fn sequence(ops: &[Op], looks: usize) -> Vec<u8> {
     let mut recorder = Recorder::new(looks);
     for op in ops {
-        recorder.call(op).ok_or_else(|| format!("a difference is met at {op}"))?;
+        recorder.call(op);
     }
     recorder.look();
-    Ok(recorder.data)
+    recorder.data
 }
 
 /// A driver's trace, with time passing and the host pulling and feeding.
-fn traced(text: &str) -> Result<Vec<Op>, String> {
+fn traced(steps: &[Step]) -> Vec<Op> {
     let mut ops = vec![Op::New { microphone: true, memory: TRACE_MEMORY }];
-    for (line, step) in trace::parse(text)?.into_iter().enumerate() {
-        ops.push(step.op);
+    for (line, step) in steps.iter().enumerate() {
+        ops.push(step.op.clone());
         if line.is_multiple_of(TRACE_LINES) {
             ops.push(Op::Advance(TRACE_TIME));
         }
@@ -122,12 +128,13 @@ fn traced(text: &str) -> Result<Vec<Op>, String> {
             ops.extend([Op::Pull(2048), Op::Feed(vec![line as u8; 400])]);
         }
     }
-    Ok(ops)
+    ops
 }
 
-/// The judge with the bytes so far, and the amended oracle, which knows the differences.
+/// Both oracles, with the bytes so far.
 struct Recorder {
-    reference: Reference,
+    /// Gone where it has parted.
+    reference: Option<Reference>,
     amended: Amended,
     data: Vec<u8>,
     calls: usize,
@@ -149,38 +156,44 @@ struct Call<'a> {
 
 impl Recorder {
     fn new(looks: usize) -> Self {
-        let (reference, amended) = (Reference::new(true, 0x1000), Amended::new(true, 0x1000));
+        let (reference, amended) = (Some(Reference::new(true, 0x1000)), Amended::new(true, 0x1000));
         Self { reference, amended, data: Vec::new(), calls: 0, looks, by_bar: false }
     }
 
-    /// Makes a call and records it; none where it met a difference, and nothing is recorded then.
-    fn call(&mut self, op: &Op) -> Option<Answer> {
+    /// Makes a call and records it.
+    fn call(&mut self, op: &Op) -> Answer {
         if let Op::Noise(seed) = op {
-            return Some(self.noise(seed % (MODULUS - 1) + 1));
+            return self.noise(seed % (MODULUS - 1) + 1);
         }
         self.amended.take_differences();
-        let amended = execute(&mut self.amended, op);
-        if !self.amended.take_differences().is_empty() {
-            return None;
+        let answer = execute(&mut self.amended, op);
+        if self.parts(op, &answer) {
+            assert!(!self.amended.take_differences().is_empty(), "parted with no difference at {op}");
+            self.reference = None;
         }
-        let answer = execute(&mut self.reference, op);
-        assert!(answer == amended && self.reference.view() == self.amended.view(), "parted with no difference at {op}");
         self.lay(op, &answer);
         self.calls += 1;
         if self.calls.is_multiple_of(self.looks) {
             self.look();
         }
-        Some(answer)
+        answer
     }
 
-    /// The device's own state damaged as the turn says, then as it is; none where a call met a difference.
-    fn restores(&mut self, turn: usize) -> Option<()> {
-        let saved = self.call(&Op::Save)?.bytes;
+    /// Makes the call on the unchanged Rust, if it is there, and says whether it now differs from the amended oracle.
+    fn parts(&mut self, op: &Op, amended: &Answer) -> bool {
+        self.reference.as_mut().is_some_and(|reference| {
+            let answer = execute(reference, op);
+            answer != *amended || reference.view() != self.amended.view() || reference.memory() != self.amended.memory()
+        })
+    }
+
+    /// The device's own state damaged as the turn says, then as it is.
+    fn restores(&mut self, turn: usize) {
+        let saved = self.call(&Op::Save).bytes;
         let scene = refused::scene(turn, &saved);
         for op in scene.into_iter().chain([Op::Restore(saved)]).filter(is_recorded) {
-            self.call(&op)?;
+            self.call(&op);
         }
-        Some(())
     }
 
     fn lay(&mut self, op: &Op, answer: &Answer) {
@@ -214,35 +227,36 @@ impl Recorder {
         };
         // Calls on guest memory or the host end alone report no interrupt.
         let reported = call.kind >= kind::ADVANCE && call.kind < kind::FEED;
-        let reply = returned(answer, reported, &self.reference.view());
-        self.push(&call, reply, held(&answer.bytes, &self.reference.view()));
+        let reply = returned(answer, reported, &self.amended.view());
+        self.push(&call, reply, held(&answer.bytes, &self.amended.view()));
     }
 
     /// A new device and host end, and memory of zeros.
     fn begin(&mut self, microphone: bool, memory: usize) {
-        let digest = held(&[], &self.reference.view());
+        let digest = held(&[], &self.amended.view());
         self.push(&Call { kind: kind::NEW, first: u64::from(microphone), ..Call::default() }, 0, digest);
         self.push(&Call { kind: kind::MEMORY, first: memory as u64, ..Call::default() }, 0, digest);
     }
 
     fn noise(&mut self, seed: u64) -> Answer {
         fill(self.amended.memory_mut(), seed);
-        fill(self.reference.memory_mut(), seed);
-        let (length, digest) = (self.reference.memory().len() as u64, held(&[], &self.reference.view()));
+        if let Some(reference) = &mut self.reference {
+            fill(reference.memory_mut(), seed);
+        }
+        let (length, digest) = (self.amended.memory().len() as u64, held(&[], &self.amended.view()));
         self.push(&Call { kind: kind::MEMORY, first: length, second: seed, ..Call::default() }, 0, digest);
         Answer::default()
     }
 
     /// Records what guest memory holds.
     fn look(&mut self) {
-        assert!(self.reference.memory() == self.amended.memory(), "memory parted with no difference");
-        let digest = digest(START, self.reference.memory());
+        let digest = digest(START, self.amended.memory());
         self.push(&Call { kind: kind::LOOK, ..Call::default() }, 0, digest);
     }
 
     fn push(&mut self, call: &Call, reply: u64, digest: u32) {
         let data = &mut self.data;
-        data.push(call.kind);
+        data.push(call.kind | if self.reference.is_some() { 0 } else { AMENDED });
         data.extend(u16::try_from(call.bytes.len()).expect("calls hand over few bytes").to_le_bytes());
         data.extend(u32::try_from(call.room).expect("calls give few bytes").to_le_bytes());
         data.extend(call.first.to_le_bytes());
@@ -321,7 +335,7 @@ mod tests {
     fn numbers(mut data: &[u8]) -> BTreeSet<u8> {
         let mut numbers = BTreeSet::new();
         while let Some(kind) = data.first() {
-            if *kind == kind::RESTORE {
+            if kind & !AMENDED == kind::RESTORE {
                 numbers.insert(data[23]);
             }
             data = &data[35 + layout::get::<2>(data, 1) as usize..];
@@ -331,16 +345,38 @@ mod tests {
 
     #[test]
     fn restores_are_accepted_and_refused_with_every_number() {
-        let data = record("").expect("an empty trace meets no difference");
+        let data = record("").expect("an empty trace is one");
         assert_eq!(numbers(&data), (0..=9).collect());
     }
 
+    /// How many calls the unchanged Rust answered, and how many the amended oracle.
+    fn answered(mut data: &[u8]) -> [usize; 2] {
+        let mut calls = [0; 2];
+        while let Some(kind) = data.first() {
+            calls[usize::from(kind / AMENDED)] += 1;
+            data = &data[35 + layout::get::<2>(data, 1) as usize..];
+        }
+        calls
+    }
+
     #[test]
-    fn sequences_written_by_hand_are_recorded_whole() {
-        let data = record("").expect("an empty trace meets no difference");
+    fn the_unchanged_rust_answers_sequences_written_by_hand_whole() {
+        let data = record("").expect("an empty trace is one");
         for scene in scenes::all() {
-            let recorded = whole(&scene, 1).expect("it meets no difference");
+            let recorded = sequence(&scene, 1);
+            assert_eq!(answered(&recorded)[1], 0);
             assert!(data.windows(recorded.len()).any(|part| part == recorded));
         }
+    }
+
+    #[test]
+    fn the_amended_oracle_answers_from_the_first_parting_on() {
+        let write = |offset, data: &[u8]| Op::Write { offset, data: data.to_vec() };
+        let begin = [Op::New { microphone: true, memory: 4096 }, write(0x08, &[1])];
+        let rates = [write(0x60, &[0x0a, 0, 0x2f, 0, 0, 0, 0, 0, 1]), Op::Advance(0)];
+        let calls = sequence(&begin, 99);
+        // A new device is recorded as two calls, and the last call is a look at guest memory.
+        assert_eq!(answered(&calls), [4, 0]);
+        assert_eq!(answered(&sequence(&[&begin[..], &rates].concat(), 99)), [3, 3]);
     }
 }

@@ -120,6 +120,7 @@ impl Reader<'_> {
 pub struct Progress {
     pub control: u8,
     pub status: u8,
+    pub format: u16,
     pub submitted: u64,
     pub pending: u32,
 }
@@ -132,7 +133,8 @@ pub fn progress(state: &[u8]) -> [Progress; 2] {
         let pending = u32::from_le_bytes(state[start + 30..start + 34].try_into().unwrap());
         let submitted = u64::from_le_bytes(state[start + 6..start + 14].try_into().unwrap());
         start += STREAM_BYTES + 8 * pending as usize;
-        Progress { control: state[registers], status: state[registers + 3], submitted, pending }
+        let format = u16::from_le_bytes([state[registers + 0x12], state[registers + 0x13]]);
+        Progress { control: state[registers], status: state[registers + 3], format, submitted, pending }
     })
 }
 

@@ -30,6 +30,23 @@ pub fn parse(text: &str) -> Result<Vec<Step>, String> {
     Ok(steps)
 }
 
+/// Parameter 0x0a, the rates, asked of any node, without the node's number; and the place of the parameter's number in the command's bytes.
+const RATES: u32 = 0x000f_000a;
+const PARAMETER: usize = 0;
+
+/// Asks for parameter 0x0b wherever the driver asks for the rates. To those request T-01 gives another reply than the Rust; the rest of the trace is then
+/// the unchanged Rust's to judge.
+pub fn ask_no_rates(steps: &mut [Step]) {
+    for step in steps {
+        if let Op::Poke { data, .. } = &mut step.op
+            && let Ok(command) = <[u8; 4]>::try_from(data.as_slice())
+            && u32::from_le_bytes(command) & 0xf00f_ffff == RATES
+        {
+            data[PARAMETER] = 0x0b;
+        }
+    }
+}
+
 fn step(words: &[&str]) -> Option<Step> {
     let [kind, first, rest @ ..] = words else { return None };
     let first = number(first)?;
@@ -62,5 +79,13 @@ mod tests {
         assert_eq!(ops, ["cread 24", "cwrite 27 0 2600", "read 0x24 4", "write 0x5d 05", "poke 0x1004 00000f00"]);
         assert!(steps[0].matches(&[5, 0, 0x80, 0]) && !steps[0].matches(&[5, 0, 0x81, 0]));
         assert!(parse("R 0x24 4").is_err() && parse("X 0x24 4 0").is_err());
+    }
+
+    #[test]
+    fn another_parameter_is_asked_for_in_the_place_of_the_rates() {
+        let mut steps = parse("M 0x1004 0a002f00\nM 0x1008 0a003f00 # a node without rates\nM 0x100c 0c002f00\nW 0x48 2 0xa\n").unwrap();
+        ask_no_rates(&mut steps);
+        let ops: Vec<String> = steps.iter().map(|step| step.op.to_string()).collect();
+        assert_eq!(ops, ["poke 0x1004 0b002f00", "poke 0x1008 0b003f00", "poke 0x100c 0c002f00", "write 0x48 0a00"]);
     }
 }

@@ -1,5 +1,5 @@
 //! The port beside both Rust devices. The amended oracle judges every call, and no difference excuses the port. The unchanged reference judges too, until a call
-//! that meets one of document 01's differences makes it part; the sequence then goes on without it.
+//! that meets a difference makes it part; the sequence then goes on without it.
 use crate::coverage::Coverage;
 use crate::device::{Amended, Reference};
 use crate::lockstep::{DEFAULT_MEMORY, InStep, Parting, Seen, differing};
@@ -59,6 +59,10 @@ impl InStep for Trio {
         self.coverage.record(op, &answer, &self.before, &view.state, fired);
         self.before = view.state;
         Ok(answer)
+    }
+
+    fn is_judged_by_reference(&self) -> bool {
+        self.reference.is_some()
     }
 
     fn coverage(&mut self) -> &mut Coverage {

@@ -1,5 +1,5 @@
 //! Scenes that send commands to the codec.
-use super::{FORMATS, Generator, REFUSED_FORMATS};
+use super::{ADDED_FORMATS, FORMATS, Generator, REFUSED_FORMATS};
 use crate::ops::Op;
 use crate::side::Direction;
 
@@ -8,6 +8,10 @@ const GETS: [u32; 12] = [0xf01, 0xf02, 0xf03, 0xf05, 0xf06, 0xf07, 0xf08, 0xf09,
 /// Verbs that set one byte of a node's record, or nothing.
 const SETS: [u32; 18] =
     [0x701, 0x703, 0x705, 0x706, 0x707, 0x708, 0x709, 0x70c, 0x70c, 0x70d, 0x71c, 0x71d, 0x71e, 0x71f, 0x720, 0x721, 0x722, 0x723];
+
+/// The parameter that declares rates, which request T-01 changes, and another that the same nodes have.
+const RATES: u32 = 0xa;
+const STREAM_FORMATS: u32 = 0xb;
 
 /// The converter and the pin of a direction.
 fn nodes(direction: Direction) -> (u32, u32) {
@@ -72,7 +76,7 @@ impl Generator {
             3 => 0xb << 16 | self.amplifier_payload(),
             4 => 0x2 << 16 | u32::from(self.format()),
             5 => 0xa << 16 | payload,
-            6 => 0xf00 << 8 | self.random.below(0x14) as u32,
+            6 => 0xf00 << 8 | self.parameter(),
             7..=8 => self.random.pick(&GETS) << 8 | self.random.pick(&[0, 0, payload]),
             9 => self.random.pick(&SETS) << 8 | payload,
             // On node 1 this resets the codec.
@@ -82,6 +86,15 @@ impl Generator {
         };
         let address = if self.random.percent(4) { self.random.below(32) as u32 } else { 0 };
         address << 27 | node << 20 | body
+    }
+
+    fn parameter(&mut self) -> u32 {
+        let any = self.random.below(0x14) as u32;
+        match any {
+            _ if self.asks_more && self.random.percent(30) => RATES,
+            RATES if !self.asks_more => STREAM_FORMATS,
+            _ => any,
+        }
     }
 
     fn amplifier_payload(&mut self) -> u32 {
@@ -95,10 +108,15 @@ impl Generator {
         self.random.weighted(&[(3, 0x4a), (3, 0x36), (2, 0x5e), (1, 0x44), (1, 0x00), (1, 0x7f), (1, 0xca), (4, any & 0x7f), (1, any)])
     }
 
+    /// A format word that is accepted.
+    pub(super) fn accepted_format(&mut self) -> u16 {
+        if self.asks_more && self.random.percent(60) { self.random.pick(&ADDED_FORMATS) } else { self.random.pick(&FORMATS) }
+    }
+
     /// A format word, usually accepted.
     pub(super) fn format(&mut self) -> u16 {
         let any = self.random.next_u64() as u16;
-        let accepted = self.random.pick(&FORMATS);
+        let accepted = self.accepted_format();
         let refused = self.random.pick(&REFUSED_FORMATS);
         let near = accepted ^ 1 << self.random.below(16);
         self.random.weighted(&[(24, accepted), (16, 0x0011), (2, refused), (1, near), (1, any)])
@@ -134,7 +152,7 @@ impl Generator {
     fn spoiler(&mut self, converter: u32, pin: u32, tag: u32) -> u32 {
         let node = self.random.pick(&[1, converter, pin]);
         let (channel, other) = (self.random.between(1, 15) as u32, self.random.below(16) as u32);
-        let format = u32::from(self.random.pick(&FORMATS));
+        let format = u32::from(self.accepted_format());
         self.random.pick(&[
             converter << 20 | 0x706 << 8 | tag << 4 | channel,
             converter << 20 | 0x706 << 8 | other << 4,

@@ -13,10 +13,11 @@ use crate::side::{Answer, Direction};
 use std::collections::VecDeque;
 use streams::StreamPicture;
 
-/// The ten format words that are accepted.
+/// The format words that the Rust accepts too, and those that request T-01 adds.
 const FORMATS: [u16; 10] = [0x0011, 0x0811, 0x0911, 0x1211, 0x1911, 0x1b11, 0x4011, 0x4911, 0x5211, 0x5b11];
+const ADDED_FORMATS: [u16; 2] = [0x4811, 0x5911];
 /// Format words that are refused, each by another rule or nearly accepted.
-const REFUSED_FORMATS: [u16; 12] = [0x0000, 0x2411, 0x6411, 0x2011, 0x4811, 0x0111, 0x0091, 0x8011, 0x0010, 0x0012, 0x0021, 0x3f11];
+const REFUSED_FORMATS: [u16; 12] = [0x0000, 0x2411, 0x6411, 0x2011, 0x5811, 0x0111, 0x0091, 0x8011, 0x0010, 0x0012, 0x0021, 0x3f11];
 /// Register bytes that hold addresses.
 const ADDRESS_REGISTERS: [std::ops::Range<u64>; 5] = [0x40..0x48, 0x50..0x58, 0x70..0x78, 0x98..0xa0, 0xb8..0xc0];
 /// Saved states that are kept to be restored later.
@@ -34,6 +35,9 @@ pub struct Generator {
     /// Keeps all addresses inside memory, counts far from 2^64 and lists within their limit. A descriptor that the device itself overwrites may
     /// still lead outside.
     tame: bool,
+    /// Whether the sequence often meets what requests ask otherwise than the Rust. There the unchanged Rust soon leaves, so that half of the sequences
+    /// do without.
+    asks_more: bool,
     planned: VecDeque<Op>,
     saved: Vec<Vec<u8>>,
     /// Whether the next state that a save gives is to be restored, changed.
@@ -112,6 +116,7 @@ impl Generator {
         let mut generator = Self {
             random: Random::new(seed),
             tame,
+            asks_more: false,
             planned: VecDeque::new(),
             saved: Vec::new(),
             restores_next: false,
@@ -160,6 +165,7 @@ impl Generator {
 
     /// A new device in a memory of noise, usually brought up.
     fn begin(&mut self) {
+        self.asks_more = self.random.flag();
         let sizes: &[u64] = if self.tame { &[16_384, 20_100, 65_536] } else { &[4096, 4100, 5000, 16_396, 20_100, 65_536] };
         self.memory = self.random.pick(sizes);
         let microphone = self.random.percent(90);
@@ -494,6 +500,7 @@ impl Generator {
             (10, 5_333_334),
             (4, 5_333_333),
             (4, 5_804_989),
+            (4, 2_902_495),
             (4, 2_666_667),
             (2, 1_000_000_000),
             (1, seconds),

@@ -1,5 +1,5 @@
 //! Scenes that save, and restore states that are good, old or damaged.
-use super::{ADDRESS_REGISTERS, FORMATS, Generator, REFUSED_FORMATS};
+use super::{ADDRESS_REGISTERS, Generator, REFUSED_FORMATS};
 use crate::ops::Op;
 use crate::side::Direction;
 use crate::state::{BOUNDARIES, REGISTERS, State};
@@ -74,7 +74,7 @@ impl Generator {
         let index = self.random.below(2) as usize;
         let base = 0x80 + 32 * index;
         let (descriptor, odd) = (self.random.below(256) as u16, self.random.below(40) as u32);
-        match self.random.below(18) {
+        match self.random.below(19) {
             0 => state.paused = self.random.below(2) as u8,
             1 => state.ticks = self.random.pick(&[0, 1 << 32, u64::MAX, u64::MAX - 24_000]),
             2 => state.remainder = self.random.pick(&[0, 999_999_999, 500_000_000]),
@@ -86,7 +86,7 @@ impl Generator {
             8 => state.streams[index].time = self.random.pick(&[0, 999_999_999, 300 * 1_000_000_000, TIME_LIMIT - 1]),
             9 => state.registers[base] = self.random.pick(&[0, 2, 0x1e, 1, 3, 0x1f]),
             10 => {
-                let format = self.random.pick(&FORMATS);
+                let format = self.accepted_format();
                 state.registers[base + 0x12..base + 0x14].copy_from_slice(&format.to_le_bytes());
             }
             11 => {
@@ -108,6 +108,10 @@ impl Generator {
                 state.registers[0xe..0x10].copy_from_slice(&self.random.bytes(2));
             }
             16 => self.change_position(state, index),
+            17 => {
+                let (node, format) = (self.random.pick(&[2, 4]), self.accepted_format());
+                state.codec[24 * node + 10..24 * node + 12].copy_from_slice(&format.to_le_bytes());
+            }
             _ => {
                 let place = 24 * self.random.below(6) as usize + self.random.pick(&[4, 5, 6, 7, 8, 9, 12, 16, 23]);
                 state.codec[place] = self.random.byte();

@@ -4,8 +4,8 @@ use borrow.Author.Needs.{needs}
 use Rattle.rehearse.proofs.call.load.Statement.{statement}
 use Rattle.rehearse.proofs.call.load.Tie as tie
 
-shared-slice-read-t4 : tie.Need-shared-slice-read-t4
-shared-slice-read-t4 c = search needs
+shared-slice-read-tag : tie.Need-shared-slice-read-tag
+shared-slice-read-tag c = search needs
 
 add-get16 : tie.Need-add-get16
 add-get16 c = search needs
@@ -52,7 +52,7 @@ pub load-spec : {M : Type 1} → statement M
 load-spec =
     tie.close
     (tie.spec
-    shared-slice-read-t4
+    shared-slice-read-tag
     add-get16
     get16-requires
     add-get32

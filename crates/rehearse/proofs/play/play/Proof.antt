@@ -152,22 +152,22 @@ counted-requires-3 : tie.Need-counted-requires-3 Inv-loop μ-loop
 counted-requires-3 c κs = tt
 
 same-length-13 : tie.Need-same-length-13 Inv-loop μ-loop
-same-length-13 c = omega arith
+same-length-13 c = omega (arith, Loop (search) .loop .inv .1)
 
 same-length-14 : tie.Need-same-length-14 Inv-loop μ-loop
-same-length-14 c = omega arith
+same-length-14 c = omega (arith, Loop (search) .loop .inv .2)
 
 same-length-15 : tie.Need-same-length-15 Inv-loop μ-loop
-same-length-15 c = omega arith
+same-length-15 c = omega (arith, Loop (search) .loop .inv .3)
 
 same-length-16 : tie.Need-same-length-16 Inv-loop μ-loop
-same-length-16 c = omega arith
+same-length-16 c = omega (arith, Loop (search) .loop .inv .4)
 
 same-length-17 : tie.Need-same-length-17 Inv-loop μ-loop
-same-length-17 c = omega arith
+same-length-17 c = omega (arith, Loop (search) .loop .inv .5)
 
 same-length-18 : tie.Need-same-length-18 Inv-loop μ-loop
-same-length-18 c = omega arith
+same-length-18 c = omega (arith, Loop (search) .loop .inv .6)
 
 returns-3 : tie.Need-returns-3 Inv-loop μ-loop
 returns-3 c =
