@@ -2,13 +2,13 @@
 -- Assumes nothing.
 use Prim.Native.Nat.{ℕ, _+_, _-_, _*_, _≤_, _<_}
 use mathlib.Core.Path.{_≡_, sym, ap, _∙_}
-use mathlib.Core.Bool.{Bool, true, false, not}
+use mathlib.Core.Bool.{Bool, true, false, not, and-eq-true-iff}
 use mathlib.Core.List.{List, [], _∷_, _++_, append-nil, append-assoc}
 use native.Mathlib.Omega.{arith}
-use lib.Dec.{eqb}
+use lib.Dec.{eqb, leb}
 use lib.ListN.{length, take, drop, getD, set, length-append, length-take, length-drop, drop-of-length-le, List·getD-append}
 use lib.Seq.{take-all, take-at, drop-at, length-take-le, getD-take, getD-drop}
-use borrow.Author.Tests.{lt-ltb, le-ltb, eq-eqb, ne-eqb}
+use borrow.Author.Tests.{leb-true, lt-ltb, le-ltb, eq-eqb, ne-eqb}
 use Rattle.word.specs.Place.{wordAt, storeAt}
 use Rattle.format.specs.declared.Format.{Format}
 use Rattle.format.specs.Format.{formatOf, rateOf}
@@ -21,7 +21,7 @@ use Rattle.codec.specs.Bytes.{codecAt, storeCodecAt}
 use Rattle.clock.specs.declared.Clock.{Clock}
 use Rattle.clock.specs.Clock.{advanceOf}
 use Rattle.clock.specs.Frames.{accrueOf}
-use Rattle.replay.specs.Answers.{answered, sized, pcmOf, countOf, valueOf, flagOf, repeated, formatAnswer, gainAnswer, verbAnswer, connectedAnswer, clockAnswer, timeAnswer}
+use Rattle.replay.specs.Answers.{answered, sized, pcmOf, countOf, valueOf, flagOf, repeated, formatAnswer, gainAnswer, verbAnswer, connectedAnswer, clockAnswer, timeAnswer, isAmended, leafOf}
 use Rattle.replay.proofs.Stores.{stored, take-more}
 
 pub other-size : (n : ℕ) (b own : List ℕ) → (length b ≡ n → ⊥) → answered false b ≡ sized n b own
@@ -135,3 +135,14 @@ module _ (b : List ℕ) (pcm : ℕ) (whole : length b ≡ 4 + 2 * pcm) where
   gain-answer y z left right h p l r e g =
       let count : length y - (4 + pcm) ≡ pcm = omega (arith, ap length e, repeated-length) in
       rw (le-ltb (length b) 4 h, ← p, ← l, ← r) (right-size (4 + 2 * pcm) b _ _ whole (amplified y z left right _ e count g))
+
+-- a letter's leaf, by the test whether it is a lower-case letter
+module _ (letter : ℕ) where
+  pub amended-least : isAmended letter ≡ true → 97 ≤ letter
+  amended-least e = leb-true 97 letter (and-eq-true-iff (leb 97 letter) (leb letter 122) .0 e .0)
+
+  pub leaf-amended : isAmended letter ≡ true → letter - 32 ≡ leafOf letter
+  leaf-amended e = rw e
+
+  pub leaf-plain : isAmended letter ≡ false → letter ≡ leafOf letter
+  leaf-plain e = rw e

@@ -9,7 +9,7 @@ use lib.ListN.{length, take, drop, getD, drop-of-length-le}
 use lib.Seq.{take-length, drop-cons, drop-drop}
 use Rattle.bytes.specs.Bytes.{slice, indexOf, indexAfter}
 use Rattle.replay.specs.declared.verdict.Tally.{Tally}
-use Rattle.replay.specs.Verdict.{lineVerdictOf, countedOf}
+use Rattle.replay.specs.Verdict.{lineCounted}
 use Rattle.replay.specs.Lines.{longer, linesOf, countAll}
 
 -- the first line of bytes that are not empty ends at the first line end, or with the bytes
@@ -30,7 +30,7 @@ parted (x ∷ l) b = parted-by (eqb b 10) b (x ∷ l) refl (ap (longer b) (parte
 -- a loop that goes from line to line: one line more, and the end
 module _ (all : List ℕ) (start : ℕ) (t : Tally) where
   pub count-line : start < length all → (stop : ℕ) → stop ≡ start + indexOf 10 (slice start (length all) all) →
-      (t′ : Tally) → t′ ≡ countedOf t (lineVerdictOf (take (stop - start) (drop start all))) →
+      (t′ : Tally) → t′ ≡ lineCounted t (take (stop - start) (drop start all)) →
       countAll t (linesOf (drop start all)) ≡ countAll t′ (linesOf (drop (stop + 1) all))
   unfolding Parted slice countAll
   count-line h stop e t′ f =

@@ -1,12 +1,13 @@
 -- What the definitions come to: bytes written as digits and read again are the same bytes, a line with the answer that the leaf gives is judged the same,
--- bytes fall into lines as they were written, and where none is counted as different each line is judged the same. Assumes nothing.
+-- a letter in lower case asks for what its capital does, bytes fall into lines as they were written, and where none is counted as different each line is
+-- judged the same. Assumes nothing.
 use Prim.Native.Nat.{ℕ, zero, suc, _+_, _/_, _%_, _^_, _≤_, _<_}
 use mathlib.Core.Path.{_≡_, refl, sym, ap, _∙_}
 use mathlib.Core.Bool.{Bool, true, false, cond}
 use mathlib.Core.Logic.{_≢_}
 use mathlib.Core.List.{List, [], _∷_, _++_}
 use native.Mathlib.Omega.{arith}
-use borrow.Author.Tests.{ltb-true, ltb-false, lt-ltb, le-ltb, ne-eqb}
+use borrow.Author.Tests.{ltb-true, ltb-false, lt-ltb, le-ltb, le-leb, lt-leb, ne-eqb}
 use lib.Dec.{eqb, ltb}
 use lib.ListN.{length, getD}
 use Rattle.io.specs.Digits.{glyph}
@@ -15,8 +16,8 @@ use Rattle.replay.specs.declared.verdict.Verdict.{Verdict}
 use Rattle.replay.specs.declared.verdict.Verdict.the-variants.{Same, Differs, Unreadable}
 use Rattle.replay.specs.declared.verdict.Tally.{Tally}
 use Rattle.replay.specs.Hex.{valueOf, pairOf, fromHex, toHex}
-use Rattle.replay.specs.Answers.{answered, answerOf}
-use Rattle.replay.specs.Verdict.{ownOf, verdictOf, lineVerdictOf, countedOf}
+use Rattle.replay.specs.Answers.{answered, leafAnswer, leafOf, answerOf}
+use Rattle.replay.specs.Verdict.{ownOf, verdictOf, lineVerdictOf, countedOf, lineCounted}
 use Rattle.replay.specs.Lines.{longer, linesOf, countAll, tallyOf}
 use Rattle.replay.proofs.Digits.{value-decimal, value-letter}
 use Rattle.replay.proofs.Verdicts.{equal-self}
@@ -48,6 +49,18 @@ decode-encode (x ∷ b) h =
 pub right-is-same : (letter : ℕ) (b : List ℕ) → Bytes b → answerOf letter b ≡ answered true b → verdictOf letter (toHex b) ≡ Same
 unfolding verdictOf ownOf
 right-is-same letter b h e = rw (decode-encode b h, e, equal-self (toHex b))
+
+-- a letter in lower case: which Rust answered is all that it says beside its capital
+module _ (capital : ℕ) (least : 65 ≤ capital) (most : capital ≤ 90) where
+  capital-leaf : leafOf capital ≡ capital
+  capital-leaf = rw (lt-leb 97 capital (omega arith))
+
+  lower-leaf : leafOf (capital + 32) ≡ capital
+  lower-leaf = rw (le-leb 97 (capital + 32) (omega arith), le-leb (capital + 32) 122 (omega arith)) (omega arith)
+
+  pub lower-same : (b : List ℕ) → answerOf (capital + 32) b ≡ answerOf capital b
+  unfolding answerOf
+  lower-same b = ap (λ (leaf : ℕ). leafAnswer leaf b) (lower-leaf ∙ sym capital-leaf)
 
 -- a line that has no line end in it
 abbrev Endless : List ℕ → Type 0
@@ -93,7 +106,7 @@ unfolding countAll
 count-more [] t h = omega arith
 count-more (line ∷ lines) t h =
     let more = counted-more t (omega arith) (lineVerdictOf line) in
-    omega (arith, count-more lines (countedOf t (lineVerdictOf line)) (omega arith))
+    omega (arith, count-more lines (lineCounted t line) (omega arith))
 
 each-same : (lines : List (List ℕ)) (t : Tally) → t .differ + length lines < 2 ^ 64 → countAll t lines .differ ≡ t .differ →
     (i : ℕ) → i < length lines → lineVerdictOf (getD lines i []) ≡ Same
@@ -101,11 +114,11 @@ unfolding countAll
 each-same [] t h e i k = absurd (omega arith)
 each-same (line ∷ lines) t h e zero k =
     let more = counted-more t (omega arith) (lineVerdictOf line) in
-    counted-same t (omega arith) (lineVerdictOf line) (omega (arith, count-more lines (countedOf t (lineVerdictOf line)) (omega arith)))
+    counted-same t (omega arith) (lineVerdictOf line) (omega (arith, count-more lines (lineCounted t line) (omega arith)))
 each-same (line ∷ lines) t h e (suc i) k =
     let more = counted-more t (omega arith) (lineVerdictOf line) in
-    let rest = count-more lines (countedOf t (lineVerdictOf line)) (omega arith) in
-    each-same lines (countedOf t (lineVerdictOf line)) (omega arith) (omega arith) i (omega arith)
+    let rest = count-more lines (lineCounted t line) (omega arith) in
+    each-same lines (lineCounted t line) (omega arith) (omega arith) i (omega arith)
 
 pub none-differs : (bytes : List ℕ) → length bytes < 2 ^ 64 → tallyOf bytes .differ ≡ 0 →
     (i : ℕ) → i < length (linesOf bytes) → lineVerdictOf (getD (linesOf bytes) i []) ≡ Same

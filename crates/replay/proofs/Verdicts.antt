@@ -11,8 +11,8 @@ use borrow.Author.Tests.{eq-eqb, ne-eqb, eqb-true, le-leb, lt-leb}
 use Rattle.replay.specs.declared.verdict.Verdict.{Verdict}
 use Rattle.replay.specs.declared.verdict.Verdict.the-variants.{Same, Differs, Unreadable}
 use Rattle.replay.specs.Hex.{fromHex, toHex}
-use Rattle.replay.specs.Answers.{Answered, answered, answerOf}
-use Rattle.replay.specs.Verdict.{equal, ownOf, verdictOf, readable, lineVerdictOf, ownIn}
+use Rattle.replay.specs.Answers.{Answered, answered, isAmended, answerOf}
+use Rattle.replay.specs.Verdict.{equal, ownOf, verdictOf, readable, lineVerdictOf, ownIn, amendedLine}
 
 -- `equal` tells whether two texts are the same
 pub equal-self : (l : List ℕ) → equal l l ≡ true
@@ -93,6 +93,15 @@ module _ (line room : List ℕ) where
       let all : take (length line - 1) (drop 1 line) ≡ drop 1 line = take-all (length line - 1) (drop 1 line) (omega (arith, length-drop 1 line)) in
       let read = odd-readable line odd h in
       (e ∙ rw (read, all), rw (f, read, all))
+
+-- whether a line says that the amended Rust answered
+pub amended-empty : (line : List ℕ) → length line ≡ 0 → false ≡ amendedLine line
+amended-empty [] e = refl
+amended-empty (letter ∷ digits) e = absurd (omega arith)
+
+pub amended-letter : (line : List ℕ) → (length line ≡ 0 → ⊥) → isAmended (getD line 0 0) ≡ amendedLine line
+amended-letter [] h = absurd (h refl)
+amended-letter (letter ∷ digits) h = refl
 
 -- the parts that a line's digits, their bytes and the proved code's digits take up
 pub prefix-length : (n : ℕ) (l : List ℕ) → n ≤ length l → n ≡ length (take n l)

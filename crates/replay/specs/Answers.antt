@@ -1,9 +1,9 @@
 -- The recorded answers of the Rust, and what the proved leaves answer: each layout gives the places of what a leaf was handed and of its answer. Numbers stand
--- with the lowest byte first.
-use Prim.Native.Nat.{ℕ, _+_, _*_}
-use mathlib.Core.Bool.{Bool, true, false, cond, not}
+-- with the lowest byte first. The letter in front of a record names the leaf, and says which Rust answered.
+use Prim.Native.Nat.{ℕ, _+_, _-_, _*_}
+use mathlib.Core.Bool.{Bool, true, false, cond, not, _&&_}
 use mathlib.Core.List.{List, _++_}
-use lib.Dec.{eqb, ltb}
+use lib.Dec.{eqb, ltb, leb}
 use lib.ListN.{length, take, drop, getD, set}
 use Rattle.word.specs.Place.{wordAt, storeAt}
 use Rattle.format.specs.Format.{formatOf, rateOf}
@@ -83,13 +83,25 @@ clockAnswer b = sized 40 b (storeClock (advanceOf (record { ticks = wordAt 8 0 b
 unfoldable pub timeAnswer : List ℕ → Answered
 timeAnswer b = sized 28 b (storeAt 8 20 (accrueOf (wordAt 4 16 b) (wordAt 8 8 b) (wordAt 8 0 b)) b)
 
+-- by the leaf's letter, a capital
+unfoldable pub leafAnswer : ℕ → List ℕ → Answered
+leafAnswer leaf b =
+    cond (eqb leaf 0x46) (formatAnswer b)
+    (cond (eqb leaf 0x41) (gainAnswer b)
+    (cond (eqb leaf 0x56) (verbAnswer b)
+    (cond (eqb leaf 0x4b) (connectedAnswer b)
+    (cond (eqb leaf 0x43) (clockAnswer b)
+    (cond (eqb leaf 0x54) (timeAnswer b)
+    (answered false b))))))
+
+-- a lower-case letter: the amended Rust, the one with the differences (rust/amended), answered, since the unchanged Rust answers otherwise; the leaf is that
+-- of the capital
+abbrev pub isAmended : ℕ → Bool
+isAmended letter = leb 97 letter && leb letter 122
+
+abbrev pub leafOf : ℕ → ℕ
+leafOf letter = cond (isAmended letter) (letter - 32) letter
+
 -- by the letter in front of the record
 unfoldable pub answerOf : ℕ → List ℕ → Answered
-answerOf letter b =
-    cond (eqb letter 0x46) (formatAnswer b)
-    (cond (eqb letter 0x41) (gainAnswer b)
-    (cond (eqb letter 0x56) (verbAnswer b)
-    (cond (eqb letter 0x4b) (connectedAnswer b)
-    (cond (eqb letter 0x43) (clockAnswer b)
-    (cond (eqb letter 0x54) (timeAnswer b)
-    (answered false b))))))
+answerOf letter b = leafAnswer (leafOf letter) b

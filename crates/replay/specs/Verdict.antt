@@ -8,7 +8,7 @@ use Rattle.replay.specs.declared.verdict.Verdict.{Verdict}
 use Rattle.replay.specs.declared.verdict.Verdict.the-variants.{Same, Differs, Unreadable}
 use Rattle.replay.specs.declared.verdict.Tally.{Tally}
 use Rattle.replay.specs.Hex.{fromHex, toHex}
-use Rattle.replay.specs.Answers.{answerOf}
+use Rattle.replay.specs.Answers.{isAmended, answerOf}
 
 -- whether two texts are the same
 abbrev pub equal : List ℕ → List ℕ → Bool
@@ -36,8 +36,21 @@ lineVerdictOf line = cond (readable line) (verdictOf (getD line 0 0) (drop 1 lin
 unfoldable pub ownIn : List ℕ → List ℕ → List ℕ
 ownIn line room = cond (readable line) (ownOf (getD line 0 0) (drop 1 line) ++ drop (length line - 1) room) room
 
--- one line more; both counts have 64 bits
+-- one line more, with its verdict; each count has 64 bits
 abbrev pub countedOf : Tally → Verdict → Tally
-countedOf t Same = record { lines = (t .lines + 1) % 2 ^ 64; differ = t .differ }
-countedOf t Differs = record { lines = (t .lines + 1) % 2 ^ 64; differ = (t .differ + 1) % 2 ^ 64 }
-countedOf t Unreadable = record { lines = (t .lines + 1) % 2 ^ 64; differ = (t .differ + 1) % 2 ^ 64 }
+countedOf t Same = record { lines = (t .lines + 1) % 2 ^ 64; amended = t .amended; differ = t .differ }
+countedOf t Differs = record { lines = (t .lines + 1) % 2 ^ 64; amended = t .amended; differ = (t .differ + 1) % 2 ^ 64 }
+countedOf t Unreadable = record { lines = (t .lines + 1) % 2 ^ 64; amended = t .amended; differ = (t .differ + 1) % 2 ^ 64 }
+
+-- whether a line says that the amended Rust answered: by its first byte alone, also where the line cannot be read; an empty line has none
+abbrev pub amendedLine : List ℕ → Bool
+amendedLine [] = false
+amendedLine (letter ∷ digits) = isAmended letter
+
+-- the line that was counted last is one that the amended Rust answered, or not
+abbrev pub attributedOf : Tally → Bool → Tally
+attributedOf t amended = record { lines = t .lines; amended = cond amended ((t .amended + 1) % 2 ^ 64) (t .amended); differ = t .differ }
+
+-- one line more, with its verdict and with who answered
+abbrev pub lineCounted : Tally → List ℕ → Tally
+lineCounted t line = attributedOf (countedOf t (lineVerdictOf line)) (amendedLine line)

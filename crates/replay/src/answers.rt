@@ -1,10 +1,11 @@
 // A recorded answer as bytes: what a leaf was handed, then what the Rust answered. Each function puts the proved leaf's own answer in the
-// place of the Rust's, and says whether the bytes are as many as such a record has; if not, they stay. specs/Answers.antt has the layouts.
+// place of the Rust's, and says whether the bytes are as many as such a record has; if not, they stay. specs/Answers.antt has the layouts, and
+// what the letter in front says.
 ghost use mathlib.Core.Path.{_≡_};
 ghost use Prim.Native.Nat.{_+_, _*_};
 ghost use lib.ListN.{length};
 ghost use Rattle.format.specs.Format.{rateOf};
-ghost use Rattle.replay.specs.Answers.{answered, formatAnswer, gainAnswer, verbAnswer, connectedAnswer, clockAnswer, timeAnswer, repeated, answerOf, countOf, valueOf, flagOf};
+ghost use Rattle.replay.specs.Answers.{answered, formatAnswer, gainAnswer, verbAnswer, connectedAnswer, clockAnswer, timeAnswer, repeated, leafAnswer, isAmended, leafOf, answerOf, countOf, valueOf, flagOf};
 use clock::Clock;
 use codec::Codec;
 use codec::Reply;
@@ -14,7 +15,32 @@ use format::Format;
 pub fn answer(letter: u8, bytes: &mut [u8]) -> bool
     ensures { λ r. ⌜ answered r (now (bytes .exit)) ≡ answerOf letter (now (bytes .entry)) ⌝ }
 {
-    match letter {
+    answer_leaf(leaf_of(letter), bytes)
+}
+
+// Whether a letter stands in lower case: the amended Rust answered.
+pub fn is_amended(letter: u8) -> bool
+    ensures { λ r. ⌜ r ≡ isAmended letter ⌝ }
+{
+    (b'a' <= letter) & (letter <= b'z')
+}
+
+// The capital, which names the leaf.
+fn leaf_of(letter: u8) -> u8
+    ensures { λ r. ⌜ r ≡ leafOf letter ⌝ }
+{
+    if is_amended(letter) {
+        letter - 32
+    } else {
+        letter
+    }
+}
+
+// The answer of the leaf that a capital names.
+fn answer_leaf(leaf: u8, bytes: &mut [u8]) -> bool
+    ensures { λ r. ⌜ answered r (now (bytes .exit)) ≡ leafAnswer leaf (now (bytes .entry)) ⌝ }
+{
+    match leaf {
         b'F' => answer_format(bytes),
         b'A' => answer_gain(bytes),
         b'V' => answer_verb(bytes),

@@ -1,6 +1,6 @@
 // The lines of a file's bytes: each is judged and counted, and the first that differ are printed.
 ghost use mathlib.Core.Path.{_≡_};
-ghost use Rattle.replay.specs.Verdict.{lineVerdictOf, countedOf};
+ghost use Rattle.replay.specs.Verdict.{lineCounted};
 ghost use Rattle.replay.specs.Lines.{tallyOf};
 use crate::verdict;
 use crate::verdict::Tally;
@@ -16,6 +16,7 @@ pub fn judge_all(all: &[u8]) -> Tally
 {
     let mut tally = Tally {
         lines: 0,
+        amended: 0,
         differ: 0,
     };
     let mut start = 0;
@@ -29,7 +30,7 @@ pub fn judge_all(all: &[u8]) -> Tally
 
 // One line more, printed if it is among the first that differ.
 fn judge_one(line: &[u8], tally: Tally) -> Tally
-    ensures { λ r. ⌜ r ≡ countedOf tally (lineVerdictOf (now (line .entry))) ⌝ }
+    ensures { λ r. ⌜ r ≡ lineCounted tally (now (line .entry)) ⌝ }
 {
     let mut own = io::buffer();
     let found = verdict::judge_line(line, &mut own);
@@ -37,7 +38,7 @@ fn judge_one(line: &[u8], tally: Tally) -> Tally
         let number = std::num::wrapping_add_u64(tally.lines, 1);
         report(number, line, &own, found);
     }
-    tally.counted(found)
+    tally.counted(found).attributed(verdict::is_amended(line))
 }
 
 // Where a line differs: its number, the line, and the line as the proved code has it.

@@ -1,6 +1,8 @@
 // Runs the recorded answers of the Rust on the proved code. The file `answers` has one answer a line, with what the leaf was handed
-// (specs/Answers.antt); `leaves record` of rust/leaves writes it. The last line that is printed says how many lines there were and how many
-// of them the proved code answers in another way; the first ten of those are printed, each with the proved code's own answer.
+// (specs/Answers.antt); `leaves record` of rust/leaves writes it. The letter in front is a capital where the unchanged Rust answered. It stands in
+// lower case where the amended Rust did, the one with the differences (rust/amended), since the unchanged Rust answers otherwise there. The
+// last line that is printed says how many lines there were, how many of them the amended Rust answered, and how many the proved code answers
+// in another way; the first ten of those are printed, each with the proved code's own answer.
 //
 // No contract can say what a file holds. So what is stated is what any bytes give: verdict.rt has it for a line, lines.rt for all of them. Of
 // what reads the bytes and prints it is proved that it is safe and ends.
@@ -47,6 +49,8 @@ fn room() -> [u8; ROOM]
 fn print(tally: Tally) {
     io::print_decimal(STDOUT_FILENO, tally.lines);
     io::write_all(STDOUT_FILENO, b" answers, ");
+    io::print_decimal(STDOUT_FILENO, tally.amended);
+    io::write_all(STDOUT_FILENO, b" of them by the amended Rust, ");
     io::print_decimal(STDOUT_FILENO, tally.differ);
     io::write_all(STDOUT_FILENO, b" differ\n");
 }

@@ -2,7 +2,7 @@
 ghost use mathlib.Core.Path.{_≡_};
 ghost use Prim.Native.Nat.{_*_, _≤_};
 ghost use lib.ListN.{length};
-ghost use Rattle.replay.specs.Verdict.{ownOf, verdictOf, lineVerdictOf, ownIn, countedOf};
+ghost use Rattle.replay.specs.Verdict.{ownOf, verdictOf, lineVerdictOf, ownIn, countedOf, amendedLine, attributedOf};
 
 pub enum Verdict {
     Same,
@@ -51,9 +51,20 @@ pub fn judge_line(line: &[u8], own: &mut [u8]) -> Verdict
     judge(line[0], &line[1..], &mut bytes[..half], &mut own[..digits])
 }
 
-// How many lines there were, and how many of them the proved code answers in another way or cannot read.
+// Whether a line says that the amended Rust answered, by its letter. An empty line has none.
+pub fn is_amended(line: &[u8]) -> bool
+    ensures { λ r. ⌜ r ≡ amendedLine (now (line .entry)) ⌝ }
+{
+    if line.len() == 0 {
+        return false;
+    }
+    crate::answers::is_amended(line[0])
+}
+
+// How many lines there were, how many of them the amended Rust answered, and how many the proved code answers in another way or cannot read.
 pub struct Tally {
     pub lines: u64,
+    pub amended: u64,
     pub differ: u64,
 }
 
@@ -65,16 +76,33 @@ impl Tally {
         match verdict {
             Verdict::Same => Tally {
                 lines,
+                amended: self.amended,
                 differ: self.differ,
             },
             Verdict::Differs => Tally {
                 lines,
+                amended: self.amended,
                 differ: std::num::wrapping_add_u64(self.differ, 1),
             },
             Verdict::Unreadable => Tally {
                 lines,
+                amended: self.amended,
                 differ: std::num::wrapping_add_u64(self.differ, 1),
             },
+        }
+    }
+
+    // Counts the line that was counted last among those that the amended Rust answered, if it is one.
+    pub fn attributed(self, amended: bool) -> Tally
+        ensures { λ r. ⌜ r ≡ attributedOf self amended ⌝ }
+    {
+        if !amended {
+            return self;
+        }
+        Tally {
+            lines: self.lines,
+            amended: std::num::wrapping_add_u64(self.amended, 1),
+            differ: self.differ,
         }
     }
 }

@@ -1,9 +1,11 @@
-//! Every leaf, asked of the unchanged Rust and of the proved code.
+//! Every leaf, asked of both oracles and of the proved code.
 use crate::draw::{self, ANY_RATES, EDGES};
+use crate::oracles::{Judge, Oracles, Unexplained};
+use crate::parting::Parting;
 use crate::port::Port;
 use crate::question::{Answer, CodecBytes, Question, Side};
 use crate::random::Random;
-use crate::rust::{Rust, fresh_codec};
+use crate::unchanged::fresh_codec;
 use std::fmt;
 
 /// Questions of each kind that are drawn, beside the commands, whose number the caller gives.
@@ -14,39 +16,25 @@ const TIMES: u64 = 10_000_000;
 /// Commands that one codec is given before another is drawn.
 const COMMANDS_A_CODEC: u64 = 64;
 
-/// A question on which the two sides part.
+/// Why a comparison fails.
 #[derive(Debug)]
-pub struct Difference {
-    question: Question,
-    rust: Answer,
-    port: Answer,
+pub enum Failure {
+    /// The port does not answer as its judge does.
+    Port(Box<Parting>),
+    /// The oracles part, so that neither can judge.
+    Oracles(Box<Unexplained>),
 }
 
-impl fmt::Display for Difference {
+impl fmt::Display for Failure {
     fn fmt(&self, out: &mut fmt::Formatter) -> fmt::Result {
-        if let (Question::Amplify { input, left, right, pcm }, Answer::Pcm(rust), Answer::Pcm(port)) =
-            (&self.question, &self.rust, &self.port)
-        {
-            let frame = first_difference(rust, port) / 4 * 4;
-            let (before, rust, port) = (part(pcm, frame), part(rust, frame), part(port, frame));
-            let direction = if *input { "input" } else { "output" };
-            writeln!(out, "{direction} amplifier {left:02x} {right:02x}, frame {before:02x?} at {frame} of {} bytes", pcm.len())?;
-            return write!(out, "Rust: {rust:02x?}\nport: {port:02x?}");
+        match self {
+            Self::Port(parting) => write!(out, "The port and the Rust differ.\n{parting}"),
+            Self::Oracles(unexplained) => unexplained.fmt(out),
         }
-        write!(out, "Rust: {}\nport: {}", self.question.line(&self.rust), self.question.line(&self.port))
     }
 }
 
-fn first_difference(rust: &[u8], port: &[u8]) -> usize {
-    rust.iter().zip(port).take_while(|(rust, port)| rust == port).count()
-}
-
-/// A frame of a buffer, or the bytes that are left at its end.
-fn part(pcm: &[u8], frame: usize) -> &[u8] {
-    &pcm[frame..pcm.len().min(frame + 4)]
-}
-
-type Result<T = ()> = std::result::Result<T, Box<Difference>>;
+type Result<T = ()> = std::result::Result<T, Failure>;
 
 /// Asks everything, with `commands` random commands, and prints what was equal.
 pub fn compare(commands: u64, seed: u64) -> Result {
@@ -60,43 +48,49 @@ pub fn compare(commands: u64, seed: u64) -> Result {
     sides.section("connected: codecs that are or nearly are", Sides::connections)?;
     sides.section("wall clock: edges, through a device", Sides::clock_edges)?;
     sides.section("wall clock: random, through a device", |sides| sides.drawn(TIMES, draw::clock))?;
-    sides.section("frame time: edges, through a device at its three rates, at others by its expressions", Sides::time_edges)?;
+    sides.section("frame time: edges, through a device at the rates that it takes, at others by its expressions", Sides::time_edges)?;
     sides.section("frame time: random, likewise", |sides| sides.drawn(TIMES, draw::time))?;
     Ok(())
 }
 
 struct Sides {
-    rust: Rust,
+    oracles: Oracles,
     port: Port,
     random: Random,
     fresh: CodecBytes,
-    /// Questions of this section so far, and how many were answered "connected".
+    /// Questions of this section so far, how many of them the amended oracle judged, and how many were answered "connected".
     asked: u64,
+    amended: u64,
     connected: u64,
 }
 
 impl Sides {
     fn new(seed: u64) -> Self {
-        Self { rust: Rust::new(), port: Port, random: Random::new(seed), fresh: fresh_codec(), asked: 0, connected: 0 }
+        let (oracles, random, fresh) = (Oracles::new(), Random::new(seed), fresh_codec());
+        Self { oracles, port: Port, random, fresh, asked: 0, amended: 0, connected: 0 }
     }
 
-    /// One part of the comparison, with its count.
+    /// One part of the comparison, with its counts.
     fn section(&mut self, name: &str, ask: impl FnOnce(&mut Self) -> Result) -> Result {
-        (self.asked, self.connected) = (0, 0);
+        (self.asked, self.amended, self.connected) = (0, 0, 0);
         eprintln!("{name} ..");
         ask(self)?;
-        let connected = if self.connected == 0 { String::new() } else { format!(", {} of them connected", self.connected) };
-        println!("{name}: {} questions, equal{connected}", self.asked);
+        let of_them = |count: u64, what: &str| if count == 0 { String::new() } else { format!(", {count} of them {what}") };
+        let (amended, connected) = (of_them(self.amended, "by the amended oracle"), of_them(self.connected, "connected"));
+        println!("{name}: {} questions, equal{amended}{connected}", self.asked);
         Ok(())
     }
 
-    /// Asks both, and gives the answer where it is the same.
+    /// Asks oracles and port, and gives the answer where it is the same.
     fn ask(&mut self, question: Question) -> Result<Answer> {
-        let (rust, port) = (self.rust.answer(&question), self.port.answer(&question));
+        let (rust, judge) = self.oracles.answer(&question).map_err(Failure::Oracles)?;
+        let port = self.port.answer(&question);
         if rust != port {
-            return Err(Box::new(Difference { question, rust, port }));
+            let (names, answers) = ([judge.name(), "port"], [rust, port]);
+            return Err(Failure::Port(Box::new(Parting { question, names, answers })));
         }
         self.asked += 1;
+        self.amended += u64::from(judge == Judge::Amended);
         if self.asked.is_multiple_of(2_000_000) {
             eprintln!("  {} questions", self.asked);
         }
@@ -194,20 +188,5 @@ impl Sides {
             }
         }
         Ok(())
-    }
-}
-
-#[cfg(test)]
-mod tests {
-    use super::*;
-
-    #[test]
-    fn a_difference_in_a_long_buffer_is_shown_by_its_frame() {
-        let (mut port, pcm) = (vec![0; 100_000], vec![7; 100_000]);
-        port[4098] = 1;
-        let question = Question::Amplify { input: true, left: 0x4a, right: 0xca, pcm };
-        let difference = Difference { question, rust: Answer::Pcm(vec![0; 100_000]), port: Answer::Pcm(port) };
-        let shown = "input amplifier 4a ca, frame [07, 07, 07, 07] at 4096 of 100000 bytes\nRust: [00, 00, 00, 00]\nport: [00, 00, 01, 00]";
-        assert_eq!(difference.to_string(), shown);
     }
 }

@@ -1,7 +1,8 @@
 //! Questions, drawn so that they meet the cases that the leaves tell apart.
+use crate::oracles::Oracles;
 use crate::question::{CodecBytes, Question};
 use crate::random::Random;
-use crate::rust::{RATES, Rust, fresh_codec};
+use crate::unchanged::fresh_codec;
 
 /// Nanoseconds in a second, and billionths in a tick or a frame.
 pub const BILLION: u64 = 1_000_000_000;
@@ -35,8 +36,14 @@ pub const EDGES: [u64; 25] = [
     u64::MAX,
 ];
 
+/// The rates that a format word can ask for, each with such a word.
+pub const RATES: [(u32, u16); 4] = [(44_100, 0x4011), (48_000, 0x0011), (88_200, 0x4811), (96_000, 0x0811)];
+
+/// The words that are accepted, the two of request T-01 among them.
+pub const WORDS: [u16; 12] = [0x0011, 0x0811, 0x0911, 0x1211, 0x1911, 0x1b11, 0x4011, 0x4811, 0x4911, 0x5211, 0x5911, 0x5b11];
+
 /// Rates that a format word has, the wall clock's, and the ends of what a rate can be.
-pub const ANY_RATES: [u32; 9] = [RATES[0].0, RATES[1].0, RATES[2].0, 24_000_000, 0, 1, 2, 1 << 31, u32::MAX];
+pub const ANY_RATES: [u32; 10] = [RATES[0].0, RATES[1].0, RATES[2].0, RATES[3].0, 24_000_000, 0, 1, 2, 1 << 31, u32::MAX];
 
 /// The long verbs that the codec knows, and a neighbour of each run of them.
 pub const LONG_VERBS: [u32; 47] = [
@@ -48,6 +55,9 @@ pub const LONG_VERBS: [u32; 47] = [
 /// The short verbs that the codec knows: set and get format, set and get amplifier.
 pub const SHORT_VERBS: [u32; 4] = [0x2, 0x3, 0xa, 0xb];
 
+/// The parameters that a node can have are below this.
+pub const PARAMETERS: u64 = 0x14;
+
 /// A payload of 8 bits, often one at which a mask or a parameter changes.
 pub fn payload(random: &mut Random) -> u32 {
     if random.once_in(2) {
@@ -57,14 +67,20 @@ pub fn payload(random: &mut Random) -> u32 {
     }
 }
 
-/// A command: mostly to the codec and a node that are there, by a verb that is known.
+/// 16 bits: any, or an accepted format word.
+pub fn format(random: &mut Random) -> u16 {
+    if random.once_in(2) { random.word() as u16 } else { random.pick(&WORDS) }
+}
+
+/// A command: mostly to the codec and a node that are there, by a verb that is known. One in sixteen reads a parameter that some node has.
 pub fn command(random: &mut Random) -> u32 {
     let address = if random.once_in(24) { random.below(32) as u32 } else { 0 };
     let nodes = if random.once_in(12) { 128 } else { 6 };
     let node = random.below(nodes) as u32;
-    let verb = match random.below(8) {
-        0..4 => random.pick(&LONG_VERBS) << 8 | payload(random),
-        4..7 => random.pick(&SHORT_VERBS) << 16 | random.below(1 << 16) as u32,
+    let verb = match random.below(16) {
+        0 => 0xf_0000 | random.below(PARAMETERS) as u32,
+        1..8 => random.pick(&LONG_VERBS) << 8 | payload(random),
+        8..14 => random.pick(&SHORT_VERBS) << 16 | u32::from(format(random)),
         _ => random.below(1 << 20) as u32,
     };
     address << 27 | node << 20 | verb
@@ -80,10 +96,10 @@ pub fn codec(random: &mut Random, fresh: &CodecBytes) -> CodecBytes {
 }
 
 /// A fresh codec after up to 40 commands.
-pub fn used_codec(random: &mut Random, rust: &mut Rust) -> CodecBytes {
+pub fn used_codec(random: &mut Random, oracles: &mut Oracles) -> CodecBytes {
     let mut codec = fresh_codec();
     for _ in 0..random.below(41) {
-        codec = rust.verb(&codec, command(random)).1;
+        codec = oracles.after(&codec, command(random));
     }
     codec
 }
@@ -91,7 +107,7 @@ pub fn used_codec(random: &mut Random, rust: &mut Rust) -> CodecBytes {
 /// Whether a converter is connected, of a codec that was made to be and then changed in up to two of the places that decide it.
 pub fn connected(random: &mut Random, fresh: &CodecBytes) -> Question {
     let mut codec = codec(random, fresh);
-    let (input, tag, format) = (random.once_in(2), 1 + random.below(15) as u8, random.word() as u16);
+    let (input, tag, format) = (random.once_in(2), 1 + random.below(15) as u8, format(random));
     connect(&mut codec, input, tag, format);
     let mut question = (codec, input, tag, format);
     for _ in 0..random.below(3) {
@@ -158,4 +174,41 @@ pub fn clock(random: &mut Random) -> Question {
 pub fn time(random: &mut Random) -> Question {
     let rate = if random.once_in(4) { random.word() as u32 >> random.below(32) } else { random.pick(&ANY_RATES) };
     Question::Time { fraction: fraction(random), nanos: number(random), rate }
+}
+
+#[cfg(test)]
+mod tests {
+    use super::*;
+
+    const DRAWS: usize = 100_000;
+    /// The words of request T-01.
+    const NEW: [u16; 2] = [0x4811, 0x5911];
+
+    #[test]
+    fn commands_often_ask_for_the_rates_and_keep_the_new_words() {
+        let (mut random, mut oracles) = (Random::new(1), Oracles::new());
+        let (mut reads, mut sets, mut gets) = (0, 0, 0);
+        let mut codec = fresh_codec();
+        for _ in 0..DRAWS {
+            let command = command(&mut random);
+            let (node, verb, word) = ((command >> 20) as usize, command >> 16 & 0xf, command as u16);
+            let kept = |node: usize| u16::from_le_bytes([codec[24 * node + 10], codec[24 * node + 11]]);
+            reads += usize::from(matches!(command, 0x1f_000a | 0x2f_000a | 0x4f_000a));
+            sets += usize::from(matches!(node, 2 | 4) && verb == 0x2 && NEW.contains(&word));
+            gets += usize::from(matches!(node, 2 | 4) && verb == 0xa && NEW.contains(&kept(node)));
+            codec = oracles.after(&codec, command);
+        }
+        assert!(reads >= DRAWS / 1000, "{reads} reads of parameter 0x0a");
+        assert!(sets >= DRAWS / 1000, "{sets} sets");
+        assert!(gets >= DRAWS / 1000, "{gets} gets");
+    }
+
+    #[test]
+    fn the_new_words_are_often_among_the_connected() {
+        let mut random = Random::new(1);
+        let fresh = fresh_codec();
+        let new = |question| matches!(question, Question::Connected { format, .. } if NEW.contains(&format));
+        let count = (0..DRAWS).filter(|_| new(connected(&mut random, &fresh))).count();
+        assert!(count >= DRAWS / 20, "{count} connections");
+    }
 }

@@ -1,4 +1,4 @@
-//! Compares the proved leaves with the unchanged Rust, or records what the Rust answers.
+//! Compares the proved leaves with the Rust, or records what the Rust answers.
 use leaves::{compare, record};
 use std::process::ExitCode;
 use std::{env, io};
@@ -33,8 +33,8 @@ fn run_comparison(options: &[String]) -> ExitCode {
     }
     match compare::compare(commands, seed) {
         Ok(()) => ExitCode::SUCCESS,
-        Err(difference) => {
-            println!("The port and the Rust differ.\n{difference}");
+        Err(failure) => {
+            println!("{failure}");
             ExitCode::FAILURE
         }
     }

@@ -1,4 +1,5 @@
 //! What a leaf is asked and what it answers, and both as a line of text.
+use crate::oracles::Judge;
 use std::fmt::Write;
 
 /// The codec's six records of 24 bytes.
@@ -57,15 +58,20 @@ pub enum Answer {
     Refused(u32),
 }
 
-/// Whoever answers: the unchanged Rust or the proved code.
+/// Whoever answers: one of the two oracles, or the proved code.
 pub trait Side {
     fn answer(&mut self, question: &Question) -> Answer;
 }
 
 impl Question {
-    /// The line of the recorded answers: a letter, then the bytes in hexadecimal, numbers with the lowest byte first.
-    pub fn line(&self, answer: &Answer) -> String {
-        let mut line = String::from(self.letter());
+    /// The line of the recorded answers: a letter, a capital where the unchanged Rust answered and a lower-case one where the amended oracle did,
+    /// then the bytes in hexadecimal, numbers with the lowest byte first.
+    pub fn line(&self, answer: &Answer, judge: Judge) -> String {
+        let letter = match judge {
+            Judge::Unchanged => self.letter(),
+            Judge::Amended => self.letter().to_ascii_lowercase(),
+        };
+        let mut line = String::from(letter);
         for byte in self.bytes().into_iter().chain(answer.bytes()) {
             write!(line, "{byte:02x}").unwrap();
         }

@@ -1,8 +1,9 @@
-//! The recorded answers: a sample of every leaf's cases with what the unchanged Rust answers, the same at each run.
-use crate::draw::{self, ANY_RATES, BILLION, EDGES, LONG_VERBS};
-use crate::question::{CodecBytes, Question, Side};
+//! The recorded answers: a sample of every leaf's cases with what the Rust answers, the same at each run. A line's letter says which oracle did.
+use crate::draw::{self, ANY_RATES, BILLION, EDGES, LONG_VERBS, PARAMETERS, WORDS};
+use crate::oracles::Oracles;
+use crate::question::{CodecBytes, Question};
 use crate::random::Random;
-use crate::rust::{RATES, Rust, fresh_codec, takes};
+use crate::unchanged::fresh_codec;
 use std::collections::BTreeSet;
 use std::io::{self, Write};
 
@@ -10,26 +11,26 @@ const SEED: u64 = 1;
 
 /// Writes the lines.
 pub fn record(out: &mut impl Write) -> io::Result<()> {
-    let mut rust = Rust::new();
+    let mut oracles = Oracles::new();
     let mut random = Random::new(SEED);
     let mut questions = formats(&mut random);
     questions.extend(gains(&mut random));
-    questions.extend(verbs(&mut rust, &mut random));
-    questions.extend(connections(&mut rust, &mut random));
+    questions.extend(verbs(&mut oracles, &mut random));
+    questions.extend(converter_formats(&mut oracles, &mut random));
+    questions.extend(connections(&mut oracles, &mut random));
     questions.extend(clocks(&mut random));
     questions.extend(times(&mut random));
     for question in questions {
-        let answer = rust.answer(&question);
-        writeln!(out, "{}", question.line(&answer))?;
+        let (answer, judge) = oracles.answer(&question).map_err(io::Error::other)?;
+        writeln!(out, "{}", question.line(&answer, judge))?;
     }
     Ok(())
 }
 
 /// The accepted words, those that differ from one in a bit or by 1, and a sample of the others.
 fn formats(random: &mut Random) -> Vec<Question> {
-    let accepted = (0..=u16::MAX).filter(|word| takes(*word));
-    let mut words: BTreeSet<u16> =
-        accepted.flat_map(|word| (0..16).map(move |bit| word ^ 1 << bit).chain([word - 1, word, word + 1])).collect();
+    let near = |word: u16| (0..16).map(move |bit| word ^ 1 << bit).chain([word - 1, word, word + 1]);
+    let mut words: BTreeSet<u16> = WORDS.into_iter().flat_map(near).collect();
     words.extend((0..1000).map(|_| random.word() as u16));
     words.into_iter().map(|word| Question::Format { word }).collect()
 }
@@ -46,29 +47,42 @@ fn gains(random: &mut Random) -> Vec<Question> {
 }
 
 /// Every node, every known verb and parameter of nodes 0 to 5, every short verb, every address, and random ones; on fresh, used and any codecs.
-fn verbs(rust: &mut Rust, random: &mut Random) -> Vec<Question> {
+fn verbs(oracles: &mut Oracles, random: &mut Random) -> Vec<Question> {
     let mut commands = Vec::new();
     for node in 0..6 {
         commands.extend(LONG_VERBS.map(|verb| node << 20 | verb << 8 | draw::payload(random)));
-        commands.extend((0..0x14).map(|parameter| node << 20 | 0xf_0000 | parameter));
+        commands.extend((0..PARAMETERS as u32).map(|parameter| node << 20 | 0xf_0000 | parameter));
         commands.extend((0..16).map(|verb| node << 20 | verb << 16 | random.below(1 << 16) as u32));
     }
     commands.extend((6..128).map(|node| node << 20 | draw::command(random) & 0xf_ffff));
     commands.extend((1..32).map(|address| address << 27 | draw::command(random) & 0x7ff_ffff));
     commands.extend((0..150).map(|_| draw::command(random)));
-    commands.into_iter().map(|command| Question::Verb { codec: any_codec(rust, random), command }).collect()
+    commands.into_iter().map(|command| Question::Verb { codec: any_codec(oracles, random), command }).collect()
 }
 
-fn any_codec(rust: &mut Rust, random: &mut Random) -> CodecBytes {
-    if random.once_in(2) { draw::used_codec(random, rust) } else { draw::codec(random, &fresh_codec()) }
+fn any_codec(oracles: &mut Oracles, random: &mut Random) -> CodecBytes {
+    if random.once_in(2) { draw::used_codec(random, oracles) } else { draw::codec(random, &fresh_codec()) }
 }
 
-/// Each direction connected, by a codec that commands have reached and by any other, then disturbed.
-fn connections(rust: &mut Rust, random: &mut Random) -> Vec<Question> {
+/// Each accepted word set at either converter, then read there.
+fn converter_formats(oracles: &mut Oracles, random: &mut Random) -> Vec<Question> {
+    let mut questions = Vec::new();
+    for node in [2, 4] {
+        for word in WORDS {
+            let (codec, set, get) = (any_codec(oracles, random), node << 20 | 0x2_0000 | u32::from(word), node << 20 | 0xa_0000);
+            questions.push(Question::Verb { codec, command: set });
+            questions.push(Question::Verb { codec: oracles.after(&codec, set), command: get });
+        }
+    }
+    questions
+}
+
+/// Each direction connected at each accepted word, by a codec that commands have reached; then by any codec, and disturbed.
+fn connections(oracles: &mut Oracles, random: &mut Random) -> Vec<Question> {
     let mut questions = Vec::new();
     for input in [true, false] {
-        for (_, format) in RATES {
-            let (mut codec, tag) = (draw::used_codec(random, rust), 1 + random.below(15) as u8);
+        for format in WORDS {
+            let (mut codec, tag) = (draw::used_codec(random, oracles), 1 + random.below(15) as u8);
             draw::connect(&mut codec, input, tag, format);
             questions.push(Question::Connected { codec, input, tag, format });
         }

@@ -1,7 +1,6 @@
--- `judge_one` counts the verdict of `judge_line`, whatever is printed. Assumes nothing.
-use mathlib.Core.Path.{ap, _∙_}
+-- `judge_one` counts the verdict of `judge_line` and the line's letter, whatever is printed. Assumes nothing.
+use mathlib.Core.Path.{_∙_}
 use borrow.Author.Needs.{needs}
-use Rattle.replay.specs.Verdict.{countedOf}
 use Rattle.replay.proofs.lines.judge_one.Statement.{statement}
 use Rattle.replay.proofs.lines.judge_one.Tie as tie
 
@@ -26,8 +25,18 @@ report-requires c κs = search needs
 counted-requires : tie.Need-counted-requires
 counted-requires c κs = search needs
 
+is-amended-requires : tie.Need-is-amended-requires
+is-amended-requires c κs = search needs
+
+attributed-requires : tie.Need-attributed-requires
+attributed-requires c κs = search needs
+
 returns : tie.Need-returns
-returns c = c .counted .ensures ∙ ap (countedOf _) (c .before .before .before .before .judge-line .ensures .0)
+returns c =
+    let told : tie.After-is-amended = search in
+    let counted : tie.After-counted = search in
+    let judged : tie.After-judge-line = search in
+    c .attributed .ensures ∙ rw (told .is-amended .ensures, counted .counted .ensures, judged .judge-line .ensures .0)
 
 pub judge-one-spec : {M : Type 1} → statement M
 judge-one-spec =
@@ -40,4 +49,6 @@ judge-one-spec =
     slice-aggregate-report
     report-requires
     counted-requires
+    is-amended-requires
+    attributed-requires
     returns)

@@ -1,14 +1,13 @@
-//! The unchanged Rust: two kinds of device whose state is set before each question and read after it.
+//! The Rust of the crate that the module above calls `oracle`: two kinds of device whose state is set before each question and read after it.
+//! Both oracles are driven by this one text, so that they are asked the same.
+use super::oracle::audio::{AudioFormat, CaptureSource, HostAudio, PlaybackSink};
+use super::oracle::hda::Hda;
+use super::oracle::{BusDevice, DeviceError, GuestMemory, MsiMessage, MsiSink, PciDevice};
+use crate::draw::RATES;
 use crate::question::{Answer, CodecBytes, Question, Side};
-use reference::audio::{AudioFormat, CaptureSource, HostAudio, PlaybackSink};
-use reference::hda::Hda;
-use reference::{BusDevice, DeviceError, GuestMemory, MsiMessage, MsiSink, PciDevice};
 use std::sync::Arc;
 use std::time::Duration;
 use vm_memory::GuestAddress;
-
-/// The rates that a format word can ask for, each with such a word.
-pub const RATES: [(u32, u16); 3] = [(44_100, 0x4011), (48_000, 0x0011), (96_000, 0x0811)];
 
 /// The output's number among the streams, and its registers.
 const OUTPUT: usize = 1;
@@ -19,13 +18,21 @@ const RUN: u8 = 2;
 pub struct Rust {
     /// Out of reset, with no stream running: `advance` moves its wall clock and nothing else. Its codec serves the other questions.
     idle: Hda,
-    /// For each of RATES, a device whose output runs into a host queue that stays full: `advance` adds to its frame time and moves nothing.
-    running: [Hda; 3],
+    /// For each of RATES that the device takes, one whose output runs into a host queue that stays full: `advance` adds to its frame time and
+    /// moves nothing.
+    running: Vec<(u32, Hda)>,
 }
 
 impl Rust {
     pub fn new() -> Self {
-        Self { idle: device(), running: RATES.map(|(_, word)| running(word)) }
+        let taken = RATES.into_iter().filter(|(_, word)| takes(*word));
+        Self { idle: device(), running: taken.map(|(rate, word)| (rate, running(word))).collect() }
+    }
+
+    /// The rates at which a device runs, so that `advance` itself answers.
+    #[cfg(test)]
+    pub fn rates(&self) -> Vec<u32> {
+        self.running.iter().map(|(rate, _)| *rate).collect()
     }
 
     fn amplify(&mut self, input: bool, left: u8, right: u8, pcm: &[u8]) -> Vec<u8> {
@@ -50,11 +57,10 @@ impl Rust {
         (*clock.0, *clock.1)
     }
 
-    /// The frame time by the expressions that `advance` has, and where a format word has the rate, also by `advance` itself.
+    /// The frame time by the expressions that `advance` has, and where a device can run at the rate, also by `advance` itself.
     fn time(&mut self, fraction: u64, nanos: u64, rate: u32) -> u64 {
         let time = Hda::probe_accrue(fraction, nanos, rate);
-        if let Some(index) = RATES.iter().position(|(known, _)| *known == rate) {
-            let device = &mut self.running[index];
+        if let Some((_, device)) = self.running.iter_mut().find(|(known, _)| *known == rate) {
             *device.probe_time(OUTPUT) = fraction;
             advance(device, nanos);
             assert_eq!(*device.probe_time(OUTPUT), time, "probe_accrue({fraction}, {nanos}, {rate}) is not what `advance` does");
