@@ -67,6 +67,27 @@ static inline uint32_t hda_message_data(const uint8_t device[HDA_DEVICE_BYTES])
     return (uint32_t)device[6 + 0x6c] | (uint32_t)device[6 + 0x6d] << 8;
 }
 
+/* The rate of a format word that the device accepts, in frames a second: 44,100, 48,000, 88,200 or 96,000, in 16-bit stereo. 0 for every other word. */
+static inline uint32_t hda_format_rate(uint16_t word)
+{
+    uint32_t multiple = (word >> 11 & 7u) + 1, divisor = (word >> 8 & 7u) + 1;
+    uint32_t product = (word & 0x4000 ? 44100u : 48000u) * multiple, rate = product / divisor;
+    /* PCM, the reserved bit clear, 16 bits, two channels; multiples above 4 are reserved. */
+    int stereo = (word & 0x80ff) == 0x0011 && multiple <= 4;
+    int listed = rate == 44100 || rate == 48000 || rate == 88200 || rate == 96000;
+    return stereo && rate * divisor == product && listed ? rate : 0;
+}
+
+/* The rate at which stream 0 or 1 is open, in frames a second; 0 where it is closed. 0 too where the guest has just written a format that the device does not accept under
+ * a running stream: its next turn in hda_advance stops it. */
+static inline uint32_t hda_rate(const uint8_t device[HDA_DEVICE_BYTES], const uint8_t host[HDA_HOST_BYTES], unsigned stream)
+{
+    if (stream > 1 || !host[6 + 5 * stream])
+        return 0;
+    const uint8_t *format = device + 262 + 0x92 + 0x20 * stream;
+    return hda_format_rate((uint16_t)(format[0] | format[1] << 8));
+}
+
 /* Calls that make a record, whatever its bytes were before. HDA_LENT_SPACE for short lists or queues, then HDA_STATE for another length of the record. */
 
 /* A new device. A microphone other than 0 is there. */

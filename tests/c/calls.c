@@ -1,5 +1,5 @@
 /* Calls every function of include/hda.h from C and checks a few answers: frames played and captured, a message sent, openings refused by a write and by time, a state saved and restored, slices
- * of length 0 at NULL. */
+ * of length 0 at NULL, the rate of every format word. */
 #include "hda.h"
 #include <stdio.h>
 #include <string.h>
@@ -246,6 +246,44 @@ static void exchanged(void)
     CHECK(read_register(0x83, 1) & 0x10, 0x10);
 }
 
+/* The rate of a format word, from the list of those that the device accepts. */
+static uint32_t listed_rate(unsigned word)
+{
+    switch (word) {
+    case 0x4011: case 0x4911: case 0x5211: case 0x5b11:
+        return 44100;
+    case 0x0011: case 0x0911: case 0x1211: case 0x1b11:
+        return 48000;
+    case 0x4811: case 0x5911:
+        return 88200;
+    case 0x0811: case 0x1911:
+        return 96000;
+    }
+    return 0;
+}
+
+/* Every format word: its rate, and what the device makes of it in each stream. */
+static void rates(void)
+{
+    CHECK(hda_new(device, sizeof device, lists, sizeof lists, queues, sizeof queues, 1), HDA_DONE);
+    CHECK(hda_host_new(HOST), HDA_DONE);
+    write_register(0x08, 1, 1);
+    for (unsigned word = 0; word <= 0xffff; word++) {
+        CHECK(hda_format_rate((uint16_t)word), listed_rate(word));
+        for (unsigned stream = 0; stream < 2; stream++) {
+            uint64_t base = 0x80 + 32 * stream;
+            write_register(base + 0x12, word, 2);
+            CHECK(hda_rate(device, host, stream), 0);
+            write_register(base, 2, 1);
+            CHECK(hda_rate(device, host, stream), listed_rate(word));
+            CHECK(host[6 + 5 * stream], listed_rate(word) != 0);
+            write_register(base, 0, 1);
+        }
+    }
+    /* There is no third stream. */
+    CHECK(hda_rate(device, host, 2), 0);
+}
+
 /* Every call without spaces, then every call without records. */
 static void nothing(void)
 {
@@ -304,6 +342,7 @@ int main(void)
     restored();
     empty();
     exchanged();
+    rates();
     nothing();
     printf("%d checks, %d failed\n", checks, failures);
     return failures != 0;

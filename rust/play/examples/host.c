@@ -13,6 +13,7 @@ struct sound {
     uint8_t queues[HDA_QUEUES_BYTES];
     uint8_t memory[1 << 20]; /* guest memory from address 0 on */
     uint64_t ticked;         /* the last timer tick in nanoseconds; 0 while the guest is stopped */
+    uint32_t card;           /* the rate at which the host's sound card plays; 0 while it is closed */
     int line;
 };
 
@@ -40,11 +41,21 @@ static void interrupts(struct sound *s, uint64_t reply)
         printf("message %#" PRIx32 " to %#" PRIx64 "\n", hda_message_data(s->device), hda_message_address(s->device));
 }
 
+/* The guest chooses the rate, and the host's sound card is opened at it. */
+static void follow(struct sound *s)
+{
+    uint32_t rate = hda_rate(s->device, s->host, 1);
+    if (rate != s->card)
+        printf("playback at %" PRIu32 " frames a second\n", rate);
+    s->card = rate;
+}
+
 static void timer(struct sound *s, uint64_t now)
 {
     uint64_t elapsed = s->ticked ? now - s->ticked : 0;
     s->ticked = now;
     interrupts(s, hda_advance(DEVICE(s), HOST(s), LISTS(s), QUEUES(s), MEMORY(s), elapsed));
+    follow(s);
 }
 
 static void guest_writes(struct sound *s, uint64_t offset, const uint8_t *bytes, size_t length)

@@ -1,5 +1,5 @@
 //! How a hypervisor keeps the device: one owner, a timer, the guest's accesses, the host's sound callback.
-use port::{Answer, Machine, number};
+use port::{Answer, Machine, Stream, number};
 use std::time::{Duration, Instant};
 
 /// Everything that belongs to one device; behind one lock where several threads use it.
@@ -9,6 +9,8 @@ struct Sound {
     memory: Vec<u8>,
     /// The last timer tick; none while the guest is stopped.
     ticked: Option<Instant>,
+    /// The rate at which the host's sound card plays, in frames a second; none while it is closed.
+    card: Option<u32>,
     line: bool,
 }
 
@@ -16,7 +18,7 @@ impl Sound {
     fn new(memory: usize, downstream: u32) -> Self {
         let mut machine = Machine::new(true);
         assert_eq!(machine.set_downstream(downstream).number, number::DONE);
-        Self { machine, memory: vec![0; memory], ticked: None, line: false }
+        Self { machine, memory: vec![0; memory], ticked: None, card: None, line: false }
     }
 
     /// Every millisecond: the time since the last tick, to the nanosecond.
@@ -24,6 +26,16 @@ impl Sound {
         let elapsed = self.ticked.replace(now).map_or(Duration::ZERO, |last| now - last);
         let answer = self.machine.advance(&mut self.memory, elapsed.as_nanos() as u64);
         self.interrupts(answer);
+        self.follow();
+    }
+
+    /// The guest chooses the rate, and the host's sound card is opened at it.
+    fn follow(&mut self) {
+        let rate = self.machine.rate(Stream::Playback);
+        if rate != self.card {
+            self.card = rate;
+            println!("playback {}", rate.map_or("closed".into(), |rate| format!("at {rate} frames a second")));
+        }
     }
 
     /// The guest stops, or goes on: what passes in between is no time of the device.

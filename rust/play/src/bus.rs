@@ -86,6 +86,11 @@ impl Bus {
         Ok(bytes)
     }
 
+    /// The rate at which the host is to play what it pulls; none while the guest plays nothing.
+    pub fn rate(&self) -> Option<u32> {
+        self.machine.rate(Stream::Playback)
+    }
+
     /// The bytes that the device has read and the host has not pulled.
     pub fn queued(&self) -> &[u8] {
         self.machine.queue(Stream::Playback)

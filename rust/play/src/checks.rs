@@ -10,9 +10,15 @@ pub struct Check {
 }
 
 pub fn all(take: &Take) -> Vec<Check> {
-    [("commands", commands as fn(&Take) -> Result<String, String>), ("frames", frames), ("position", position), ("interrupts", interrupts)]
-        .map(|(name, check)| Check { name, result: check(take) })
-        .into()
+    [
+        ("commands", commands as fn(&Take) -> Result<String, String>),
+        ("rate", rate),
+        ("frames", frames),
+        ("position", position),
+        ("interrupts", interrupts),
+    ]
+    .map(|(name, check)| Check { name, result: check(take) })
+    .into()
 }
 
 fn commands(take: &Take) -> Result<String, String> {
@@ -20,6 +26,21 @@ fn commands(take: &Take) -> Result<String, String> {
         return Err(format!("{} sent, {} responses", take.commands, take.responses));
     }
     Ok(format!("{} sent through the rings, each answered once, every setting read back", take.commands))
+}
+
+/// The host plays at the guest's rate, and after each tick the device has read the frames that were due by then, no more and no fewer.
+fn rate(take: &Take) -> Result<String, String> {
+    let rate = count(take.rate as usize);
+    if take.rate != take.format.rate {
+        return Err(format!("the guest plays {} frames a second, the device {rate}", count(take.format.rate as usize)));
+    }
+    for tick in &take.ticks {
+        let (read, due) = (tick.read / FRAME, (tick.time * u64::from(take.rate) / 1_000_000_000) as usize);
+        if read != due {
+            return Err(format!("{} frames read at {} ms, where {} were due", count(read), tick.time / 1_000_000, count(due)));
+        }
+    }
+    Ok(format!("{rate} frames a second: after each tick the device has read what was due, to the frame"))
 }
 
 /// What the device read is what the guest put in, from the first frame on: the host got it, or it was still queued.
@@ -97,13 +118,19 @@ pub fn count(number: usize) -> String {
 #[cfg(test)]
 mod tests {
     use super::*;
+    use crate::bus::Outcome;
+    use crate::format::{FORMATS, Format};
     use crate::guest::Ring;
     use crate::session::{Host, play};
 
-    fn take(period: usize, periods: usize, downstream: usize) -> Take {
+    fn take_at(rate: u32, word: u16, (period, periods): (usize, usize), downstream: usize) -> Outcome<Take> {
         // No two frames alike.
         let sound: Vec<u8> = (1..20_000_u32).flat_map(u32::to_le_bytes).collect();
-        play(&sound, Ring { period, periods }, Host { frames: 256, first: 8_000_000, downstream }, |_| ()).unwrap()
+        play(&sound, Format { rate, word }, Ring { period, periods }, Host { frames: 256, lead: 384, downstream }, |_| ())
+    }
+
+    fn take(period: usize, periods: usize, downstream: usize) -> Take {
+        take_at(48_000, 0x0011, (period, periods), downstream).unwrap()
     }
 
     fn failing(take: &Take) -> Vec<&'static str> {
@@ -115,6 +142,41 @@ mod tests {
         for (period, periods, downstream) in [(4800, 4, 3840), (4800, 4, 0), (4800, 4, 12_352), (1920, 16, 14_336), (4800, 3, 1920)] {
             assert_eq!(failing(&take(period, periods, downstream)), [""; 0]);
         }
+    }
+
+    /// Every word that the device accepts.
+    #[test]
+    fn takes_pass_at_every_word_of_every_rate() {
+        for (rate, words) in [
+            (44_100, [0x4011, 0x4911, 0x5211, 0x5b11].as_slice()),
+            (48_000, &[0x0011, 0x0911, 0x1211, 0x1b11]),
+            (88_200, &[0x4811, 0x5911]),
+            (96_000, &[0x0811, 0x1911]),
+        ] {
+            for &word in words {
+                let take = take_at(rate, word, (4800, 4), 3840).unwrap();
+                assert_eq!((failing(&take), take.rate), (vec![], rate), "{word:#06x}");
+            }
+        }
+    }
+
+    #[test]
+    fn a_rate_that_the_codec_does_not_declare_is_not_chosen() {
+        let refusal = "the codec does not declare 16 bits at 176400 frames a second: parameter 0x0a of node 2 is 0x201e0";
+        assert_eq!(take_at(176_400, 0x5811, (4800, 4), 3840).err(), Some(refusal.into()));
+    }
+
+    /// The guest takes the word of 176,400 for one of a rate that is declared.
+    #[test]
+    fn a_word_that_the_device_does_not_accept_is_a_stream_error() {
+        for rate in FORMATS.map(|format| format.rate) {
+            assert_eq!(take_at(rate, 0x5811, (4800, 4), 3840).err(), Some("the stream reports error 0x10".into()));
+        }
+    }
+
+    #[test]
+    fn a_word_of_another_rate_is_seen() {
+        assert_eq!(failing(&take_at(88_200, 0x0811, (4800, 4), 3840).unwrap()), ["rate"]);
     }
 
     #[test]
@@ -129,6 +191,8 @@ mod tests {
             change(&mut take);
             failing(&take)
         };
+        assert_eq!(wrong(|take| take.rate = 44_100), ["rate"]);
+        assert_eq!(wrong(|take| take.ticks[200].read += 4), ["rate"]);
         assert_eq!(wrong(|take| take.pulled[40_000] ^= 1), ["frames"]);
         assert_eq!(wrong(|take| _ = take.pulled.drain(40_000..40_004)), ["frames"]);
         assert_eq!(wrong(|take| take.queued[1] ^= 1), ["frames"]);

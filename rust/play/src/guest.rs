@@ -1,6 +1,7 @@
 //! The guest's driver: what an operating system does to find the device, set it up, and keep a playing ring filled.
 //! Register names are HDA 1.0a's.
 use crate::bus::{Bus, Outcome};
+use crate::format::Format;
 use port::Message;
 
 const GCAP: u64 = 0x00;
@@ -43,8 +44,6 @@ const DESCRIPTORS: usize = 0x3000;
 pub const RING: usize = 0x4000;
 
 pub const FRAME: usize = 4;
-/// 48 kHz, 16 bits, stereo.
-const FORMAT: u32 = 0x0011;
 const STREAM_TAG: u32 = 1;
 /// 0 dB: samples pass unchanged.
 const UNITY: u32 = 0x4a;
@@ -67,6 +66,7 @@ impl Ring {
 
 /// The driver with all that it knows.
 pub struct Guest {
+    format: Format,
     ring: Ring,
     /// What is to be heard; silence follows it.
     sound: Vec<u8>,
@@ -91,8 +91,9 @@ fn expect(what: &str, is: u32, should: u32) -> Outcome<()> {
 }
 
 /// Sets up everything until the stream is ready to run.
-pub fn start(bus: &mut Bus, ring: Ring, sound: &[u8]) -> Outcome<Guest> {
+pub fn start(bus: &mut Bus, format: Format, ring: Ring, sound: &[u8]) -> Outcome<Guest> {
     let mut guest = Guest {
+        format,
         ring,
         sound: sound.to_vec(),
         put: Vec::new(),
@@ -182,7 +183,7 @@ impl Guest {
         expect(&format!("setting {set:#x} of node {node}"), self.command(bus, node, get)?, value)
     }
 
-    /// Finds the codec's output converter and its pin, and connects them to the stream's tag.
+    /// Finds the codec's output converter and its pin, and connects them to the stream's tag, at a rate that the converter declares.
     fn codec(&mut self, bus: &mut Bus) -> Outcome<()> {
         expect("the codec", self.parameter(bus, 0, 0)?, 0x1af4_0022)?;
         let group = self.parameter(bus, 0, 4)? >> 16 & 0xff;
@@ -197,10 +198,18 @@ impl Guest {
         }
         let converter = converter.ok_or("the codec has no output converter")?;
         let pin = pin.ok_or("the codec has no output pin")?;
+        let declared = self.parameter(bus, converter, 0x0a)?;
+        if !self.format.is_declared(declared) {
+            let rate = self.format.rate;
+            return Err(format!(
+                "the codec does not declare 16 bits at {rate} frames a second: parameter 0x0a of node {converter} is {declared:#x}"
+            ));
+        }
         for node in [group, converter, pin] {
             self.set(bus, node, 0x7_0500, 0xf_0500, 0)?;
         }
-        self.set(bus, converter, 0x2_0000 | FORMAT, 0xa_0000, FORMAT)?;
+        let word = u32::from(self.format.word);
+        self.set(bus, converter, 0x2_0000 | word, 0xa_0000, word)?;
         self.set(bus, converter, 0x7_0600 | STREAM_TAG << 4, 0xf_0600, STREAM_TAG << 4)?;
         // The output amplifier, left and right.
         self.set(bus, converter, 0x3_b000 | UNITY, 0xb_a000, UNITY)?;
@@ -229,16 +238,17 @@ impl Guest {
         bus.write(self.stream + TAG, 1, STREAM_TAG << 4)?;
         bus.write(self.stream + CBL, 4, self.ring.bytes() as u32)?;
         bus.write(self.stream + LVI, 2, self.ring.periods as u32 - 1)?;
-        bus.write(self.stream + FMT, 2, FORMAT)?;
+        bus.write(self.stream + FMT, 2, u32::from(self.format.word))?;
         bus.write(self.stream + BDPL, 4, DESCRIPTORS as u32)?;
         bus.write(self.stream + BDPU, 4, 0)?;
         let enabled = bus.read(INTCTL, 4)?;
         bus.write(INTCTL, 4, enabled | 1 << self.number)
     }
 
-    /// Runs the stream, with interrupts on completion and on both errors.
+    /// Runs the stream, with interrupts on completion and on both errors. A format that the device does not accept is an error at once.
     pub fn run(&mut self, bus: &mut Bus) -> Outcome<()> {
-        bus.write(self.stream + CTL, 1, 0x1e)
+        bus.write(self.stream + CTL, 1, 0x1e)?;
+        self.serve(bus)
     }
 
     pub fn stop(&mut self, bus: &mut Bus) -> Outcome<()> {

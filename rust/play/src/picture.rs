@@ -1,6 +1,5 @@
 //! The take as a picture: what is heard, the position, and the completion interrupts on one time axis, and a closer look at the start.
 use crate::checks::count;
-use crate::drums::RATE;
 use crate::guest::FRAME;
 use crate::session::{TICK, Take};
 use std::fmt::Write;
@@ -135,11 +134,6 @@ fn thousands(bytes: usize) -> f64 {
     (bytes / FRAME) as f64 / 1000.0
 }
 
-/// The time that a number of bytes lasts.
-fn lasting(bytes: usize) -> f64 {
-    bytes as f64 / (RATE * FRAME) as f64
-}
-
 pub fn draw(take: &Take) -> String {
     let end = take.ticks.last().map_or(1.0, |tick| seconds(tick.time)).max(0.3);
     let mut svg = String::new();
@@ -154,7 +148,8 @@ pub fn draw(take: &Take) -> String {
     line(&mut svg, &format!("<rect width='{WIDTH}' height='{HEIGHT}' fill='white'/>"));
     text(&mut svg, LEFT, 32.0, "start", 20, "A drum pattern played through the proved HDA device");
     let about = format!(
-        "48 kHz, 16-bit stereo; ring of {} descriptors of {} frames, each interrupts at its end; the host pulls {} frames at a time and holds {} downstream",
+        "{} kHz, 16-bit stereo; ring of {} descriptors of {} frames, each interrupts at its end; the host pulls {} frames at a time and holds {} downstream",
+        f64::from(take.rate) / 1000.0,
         take.ring.periods,
         count(take.ring.period / FRAME),
         take.host.frames,
@@ -170,7 +165,8 @@ pub fn draw(take: &Take) -> String {
 
 /// Left over right, each frame at the time when it is heard.
 fn waveform(svg: &mut String, take: &Take, end: f64) {
-    let heard = seconds(take.host.first) + lasting(take.host.downstream);
+    let rate = f64::from(take.rate);
+    let heard = seconds(take.host.due(take.rate, 0)) + (take.host.downstream / FRAME) as f64 / rate;
     for (side, name) in ["left", "right"].into_iter().enumerate() {
         let top = 92.0 + 94.0 * side as f64;
         let panel = Panel { top, bottom: top + 86.0, start: 0.0, end, low: -1.2, high: 1.2 };
@@ -185,7 +181,7 @@ fn waveform(svg: &mut String, take: &Take, end: f64) {
         // One upright stroke for each unit of width, from the least to the greatest sample in it.
         let mut path = String::new();
         for column in LEFT as usize..RIGHT as usize {
-            let frame = |x: f64| (((x - LEFT) / (RIGHT - LEFT) * end - heard) * RATE as f64).clamp(0.0, samples.len() as f64) as usize;
+            let frame = |x: f64| (((x - LEFT) / (RIGHT - LEFT) * end - heard) * rate).clamp(0.0, samples.len() as f64) as usize;
             let part = &samples[frame(column as f64)..frame(column as f64 + 1.0)];
             if part.is_empty() {
                 continue;
@@ -207,8 +203,8 @@ fn positions(svg: &mut String, take: &Take, end: f64) {
     let frames = take.ticks.last().map_or(1.0, |tick| thousands(tick.position));
     let panel = Panel { top: 314.0, bottom: 514.0, start: 0.0, end, low: 0.0, high: frames * 1.04 };
     panel.time_axis(svg, 0.5, 1.0, false);
-    // A second of sound has 48 thousand.
-    let values: Vec<f64> = (0..).map(|index| f64::from(index) * 48.0).take_while(|value| *value <= panel.high).collect();
+    // Those of whole seconds of sound.
+    let values: Vec<f64> = (0..).map(|second| f64::from(second * take.rate) / 1000.0).take_while(|value| *value <= panel.high).collect();
     panel.value_axis(svg, &values, |value| format!("{value}"));
     panel.unit(svg, "thousand frames");
     panel.steps(svg, take.ticks.iter().map(|tick| (seconds(tick.time), thousands(tick.position))), POSITION, 2.0);
@@ -231,7 +227,9 @@ fn start(svg: &mut String, take: &Take) {
     let high = shown.clone().map(|tick| thousands(tick.put)).fold(1.0, f64::max);
     let panel = Panel { top: 634.0, bottom: 874.0, start: 0.0, end, low: 0.0, high: high * 1.04 };
     panel.time_axis(svg, 0.025, 1000.0, true);
-    let values: Vec<f64> = (0..).map(|index| f64::from(index) * 2.0).take_while(|value| *value <= panel.high).collect();
+    // Every two thousand, or a multiple of it where that would be more than ten or so.
+    let step = 2.0 * (panel.high / 20.0).ceil();
+    let values: Vec<f64> = (0..).map(|index| f64::from(index) * step).take_while(|value| *value <= panel.high).collect();
     panel.value_axis(svg, &values, |value| format!("{value}"));
     panel.unit(svg, "thousand frames");
     let mut line_of = |of: fn(&crate::session::Tick) -> usize, colour, width| {

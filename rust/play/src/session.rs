@@ -1,6 +1,6 @@
 //! A take: guest, device and host on one clock.
 use crate::bus::{Bus, Outcome};
-use crate::drums::RATE;
+use crate::format::Format;
 use crate::guest::{self, FRAME, RING, Ring};
 
 /// Nanoseconds between two timer ticks.
@@ -11,17 +11,22 @@ pub const TICK: u64 = 1_000_000;
 pub struct Host {
     /// Frames of a pull.
     pub frames: usize,
-    /// When the first pull is, in nanoseconds: later than a pull's frames last, so that the queue has them.
-    pub first: u64,
+    /// Frames that are due when the first pull is: more than it asks for, so that the queue has them, and fewer than the queue holds.
+    pub lead: usize,
     /// Bytes between a pull and the ear.
     pub downstream: usize,
 }
 
 impl Host {
-    /// When a pull is due.
-    fn due(self, pull: usize) -> u64 {
-        self.first + (pull * self.frames) as u64 * 1_000_000_000 / RATE as u64
+    /// When a pull is due at a rate, in nanoseconds.
+    pub fn due(self, rate: u32, pull: usize) -> u64 {
+        lasting(self.lead + pull * self.frames, rate)
     }
+}
+
+/// The nanoseconds that so many frames last.
+fn lasting(frames: usize, rate: u32) -> u64 {
+    frames as u64 * 1_000_000_000 / u64::from(rate)
 }
 
 /// What stood where after a tick, in bytes since the start.
@@ -40,6 +45,10 @@ pub struct Tick {
 
 /// All that happened.
 pub struct Take {
+    /// What the guest chose.
+    pub format: Format,
+    /// Frames a second, as the host learned them from the device.
+    pub rate: u32,
     pub ring: Ring,
     pub host: Host,
     pub sound: usize,
@@ -58,15 +67,16 @@ pub struct Take {
 }
 
 /// Plays `sound` until the position has passed its end.
-pub fn play(sound: &[u8], ring: Ring, host: Host, mut progress: impl FnMut(usize)) -> Outcome<Take> {
+pub fn play(sound: &[u8], format: Format, ring: Ring, host: Host, mut progress: impl FnMut(usize)) -> Outcome<Take> {
     let mut bus = Bus::new(RING + ring.bytes());
     bus.set_downstream(host.downstream as u32)?;
-    let mut guest = guest::start(&mut bus, ring, sound)?;
+    let mut guest = guest::start(&mut bus, format, ring, sound)?;
     let (mut ticks, mut completions, mut pulled) = (Vec::new(), Vec::new(), Vec::new());
     let (mut now, mut pulls, mut short) = (0, 0, 0);
-    // Twice the time that the sound lasts, and a second.
-    let limit = sound.len() as u64 * 2 * 1_000_000_000 / (RATE * FRAME) as u64 + 1_000_000_000;
     guest.run(&mut bus)?;
+    let rate = bus.rate().ok_or("the stream runs, and the host sees none that is open")?;
+    // Twice the time that the sound lasts, and a second.
+    let limit = 2 * lasting(sound.len() / FRAME, rate) + 1_000_000_000;
     while guest.position < sound.len() {
         if now > limit {
             return Err(format!("the position stands at byte {} of {}", guest.position, sound.len()));
@@ -78,7 +88,7 @@ pub fn play(sound: &[u8], ring: Ring, host: Host, mut progress: impl FnMut(usize
         let position = guest.look(&mut bus)?;
         let read = pulled.len() + bus.queued().len();
         ticks.push(Tick { time: now, put: guest.put.len(), read, pulled: pulled.len(), position });
-        while host.due(pulls) < now + TICK {
+        while host.due(rate, pulls) < now + TICK {
             let bytes = bus.pull(host.frames * FRAME)?;
             short += usize::from(bytes.len() < host.frames * FRAME);
             pulled.extend(bytes);
@@ -90,6 +100,8 @@ pub fn play(sound: &[u8], ring: Ring, host: Host, mut progress: impl FnMut(usize
     guest.stop(&mut bus)?;
     guest.serve(&mut bus)?;
     Ok(Take {
+        format,
+        rate,
         ring,
         host,
         sound: sound.len(),

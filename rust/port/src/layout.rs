@@ -33,6 +33,11 @@ pub mod device {
     pub const RESPONSES: usize = 678;
     pub const ASSERTED: usize = 748;
 
+    /// Where the format register of a stream stands.
+    pub const fn format(index: usize) -> usize {
+        REGISTERS + 0x92 + 0x20 * index
+    }
+
     /// Where the numbers of a stream start, and how many bytes they are.
     pub const fn stream(index: usize) -> usize {
         680 + STREAM * index

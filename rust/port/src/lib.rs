@@ -4,6 +4,7 @@
 //! can break memory safety: the C functions take any bytes of any length, touch nothing else and always return, and slices that a call may write cannot overlap others.
 mod c;
 pub mod calls;
+pub mod format;
 pub mod layout;
 mod machine;
 mod reply;

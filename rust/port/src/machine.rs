@@ -1,6 +1,6 @@
 //! A device with its host end, and all that they are lent besides guest memory.
 use crate::layout::{DEVICE, HOST, LIST, LISTS, MAX_STATE, QUEUE, QUEUES, STREAMS, device, get, host, stream};
-use crate::{Answer, Reply, calls, number};
+use crate::{Answer, Reply, calls, format, number};
 
 /// The records and lent spaces as bytes (docs/LAYOUT.md).
 #[derive(Clone, PartialEq, Eq)]
@@ -191,6 +191,13 @@ impl Machine {
         self.bytes.host[host::open(which.index())] != 0
     }
 
+    /// The rate at which a stream is open, in frames a second; none where it is closed. None too where the guest has just written a format that the device
+    /// does not accept under a running stream: its next turn in [`Machine::advance`] stops it.
+    pub fn rate(&self, which: Stream) -> Option<u32> {
+        let word = get::<2>(&self.bytes.device, device::format(which.index())) as u16;
+        if self.open(which) { format::rate(word) } else { None }
+    }
+
     /// The bytes queued.
     pub fn queue(&self, which: Stream) -> &[u8] {
         let index = which.index();
@@ -242,6 +249,36 @@ mod tests {
         assert_eq!(Machine::new(false).restore(&fresh).number, number::MICROPHONE);
         machine.set_playback_fails(true);
         assert_eq!((machine.restore(&running).number, machine.open(Stream::Playback)), (number::HOST_CLOSED, true));
+    }
+
+    #[test]
+    fn a_stream_opens_with_the_words_that_have_a_rate() {
+        let (mut machine, mut memory) = (Machine::new(true), [0; 4096]);
+        machine.write(&mut memory, 8, &[1]);
+        for which in Stream::EACH {
+            let registers = 0x80 + 0x20 * which.index() as u64;
+            for word in 0..=u16::MAX {
+                machine.write(&mut memory, registers + 0x12, &word.to_le_bytes());
+                assert_eq!(machine.rate(which), None, "closed");
+                machine.write(&mut memory, registers, &[2]);
+                assert_eq!((machine.rate(which), machine.open(which)), (format::rate(word), format::rate(word).is_some()), "{word:#06x}");
+                machine.write(&mut memory, registers, &[0]);
+            }
+        }
+    }
+
+    #[test]
+    fn the_rate_follows_the_format_of_a_running_stream() {
+        let (mut machine, mut memory) = (Machine::new(false), [0; 4096]);
+        machine.config_write(&mut memory, 1, 0, &[4]);
+        machine.write(&mut memory, 8, &[1]);
+        for (word, rate) in [(0x0011_u16, Some(48_000)), (0x4811, Some(88_200)), (0x5811, None)] {
+            machine.write(&mut memory, 0xb2, &word.to_le_bytes());
+            machine.write(&mut memory, 0xa0, &[2]);
+            assert_eq!((machine.rate(Stream::Playback), machine.open(Stream::Playback)), (rate, true));
+        }
+        machine.advance(&mut memory, 0);
+        assert_eq!((machine.rate(Stream::Playback), machine.open(Stream::Playback)), (None, false));
     }
 
     #[test]
