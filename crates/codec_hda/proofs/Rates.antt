@@ -11,7 +11,7 @@ use Rattle.format.specs.Format.{rates, among}
 use Rattle.format.specs.Accepted.{Accepted}
 use Rattle.format.proofs.Computed.{every}
 use Rattle.format.proofs.Theorems.{on-list, rates-exact}
-use Rattle.node.specs.Parameters.{parameterOf}
+use Rattle.node.specs.Parameters.{supportedPcm, parameterOf}
 use Rattle.codec_hda.specs.HdaParameters.{sampleRates, sampleSizes, rateBit, sizeBit, declaresRate, declaresSize, formatNodes}
 
 implied : (a b : Bool) → a ≡ true → T (not a || b) → T b
@@ -19,23 +19,23 @@ implied true b h t = t
 implied false b h t = absurd (true≢false (sym h))
 
 module _ (node : ℕ) (has : among node formatNodes ≡ true) where
-  reply : parameterOf node 0x0a ≡ 0x0002_01e0
+  reply : parameterOf node 0x0a ≡ supportedPcm
   unfolding parameterOf
-  reply = eqb→eq _ _ (on-list (λ n. eqb (parameterOf n 0x0a) 0x0002_01e0) node formatNodes tt has)
+  reply = eqb→eq _ _ (on-list (λ n. eqb (parameterOf n 0x0a) supportedPcm) node formatNodes tt has)
 
   -- a table's entries whose bits the reply has are tested, by computation: so the test holds of each that is declared
   only-declared : (table : List ℕ) (place : ℕ → ℕ) (p : ℕ → Bool)
-      → T (every (λ y. not (eqb (0x0002_01e0 / 2 ^ place y % 2) 1) || p y) table)
-      → (x : ℕ) → among x table && eqb (0x0002_01e0 / 2 ^ place x % 2) 1 ≡ true → T (p x)
+      → T (every (λ y. not (eqb (supportedPcm / 2 ^ place y % 2) 1) || p y) table)
+      → (x : ℕ) → among x table && eqb (supportedPcm / 2 ^ place x % 2) 1 ≡ true → T (p x)
   only-declared table place p t x h =
-      let k = both (among x table) (eqb (0x0002_01e0 / 2 ^ place x % 2) 1) h in
-      implied _ (p x) (k .1) (on-list (λ y. not (eqb (0x0002_01e0 / 2 ^ place y % 2) 1) || p y) x table t (k .0))
+      let k = both (among x table) (eqb (supportedPcm / 2 ^ place x % 2) 1) h in
+      implied _ (p x) (k .1) (on-list (λ y. not (eqb (supportedPcm / 2 ^ place y % 2) 1) || p y) x table t (k .0))
 
   pub declared-rates : (r : ℕ)
       → (declaresRate (parameterOf node 0x0a) r ≡ true → Accepted r) × (Accepted r → declaresRate (parameterOf node 0x0a) r ≡ true)
   declared-rates r = rw reply (
     (λ d. rates-exact r .0 (is-true _ (only-declared sampleRates rateBit (λ x. among x rates) tt r d))),
-    λ a. is-true _ (on-list (declaresRate 0x0002_01e0) r rates tt (rates-exact r .1 a)),
+    λ a. is-true _ (on-list (declaresRate supportedPcm) r rates tt (rates-exact r .1 a)),
   )
 
   pub declared-sizes : (declaresSize (parameterOf node 0x0a) 16 ≡ true) × ((s : ℕ) → declaresSize (parameterOf node 0x0a) s ≡ true → s ≡ 16)

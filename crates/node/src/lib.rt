@@ -5,6 +5,9 @@ ghost use Prim.Native.Nat.{_*_, _<_};
 ghost use Rattle.node.specs.Parameters.{parameterOf};
 ghost use Rattle.node.specs.Nodes.{putIf, putSides, setAmplifierOf, amplifierOf, setFormatOf, formatOf, setOf, getOf, entryOf, nodeVerbOf, freshNodeOf};
 
+// Supported PCM sizes and rates of the nodes that have formats: 16-bit samples at 44,100, 48,000, 88,200 and 96,000 frames a second.
+const SUPPORTED_PCM: u32 = 0x0002_01e0;
+
 // What parameter `p` of `node` replies (the Rust's `Codec::parameter`, with T-01's rates).
 pub fn parameter(node: u32, p: u32) -> u32
     ensures { λ r. ⌜ r ≡ parameterOf node p ⌝ }
@@ -20,7 +23,7 @@ pub fn parameter(node: u32, p: u32) -> u32
             0x04 => 0x0002_0004,
             0x05 => 1,
             0x08 => 0x0808,
-            0x0a => 0x0002_01e0,
+            0x0a => SUPPORTED_PCM,
             0x0b => 1,
             0x0d => 0x8003_4a4a,
             0x0f => 0xf,
@@ -29,7 +32,7 @@ pub fn parameter(node: u32, p: u32) -> u32
         },
         2 => match p {
             0x09 => 0x041d,
-            0x0a => 0x0002_01e0,
+            0x0a => SUPPORTED_PCM,
             0x0b => 1,
             0x0f => 0xf,
             0x12 => 0x8003_4a4a,
@@ -44,7 +47,7 @@ pub fn parameter(node: u32, p: u32) -> u32
         },
         4 => match p {
             0x09 => 0x0010_051b,
-            0x0a => 0x0002_01e0,
+            0x0a => SUPPORTED_PCM,
             0x0b => 1,
             0x0d => 0x8003_4a4a,
             0x0e => 1,
