@@ -1,4 +1,4 @@
-//! The second oracle: the reference's sources with differences.edits applied, which is document 01's "Where port and Rust part".
+//! The second oracle: the reference's sources with differences.edits applied, which are document 01's "Where port and Rust part" and what landed requests ask otherwise.
 #![allow(dead_code, explicit_builtin_cfgs_in_flags, unexpected_cfgs, unused)]
 include!(concat!(env!("OUT_DIR"), "/root.rs"));
 

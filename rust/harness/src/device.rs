@@ -1,4 +1,4 @@
-//! Sides over the Rust devices: `reference`, unchanged, and `amended`, with document 01's differences.
+//! Sides over the Rust devices: `reference`, unchanged, and `amended`, with the differences.
 //!
 //! The two crates are built from the same text, yet their types and traits are not the same to the compiler: a macro writes the glue twice.
 //! What glue is not stands in host.rs.
@@ -191,5 +191,5 @@ rust_side!(edited, amended, Differences::from_bits(amended::differences::take())
 
 /// The judge: the Rust as it is.
 pub type Reference = unchanged::Device;
-/// The Rust with document 01's differences, which it reports.
+/// The Rust with the differences, which it reports.
 pub type Amended = edited::Device;

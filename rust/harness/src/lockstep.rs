@@ -20,7 +20,7 @@ pub struct Parting {
     /// Place of the call in its sequence, from 0.
     pub place: usize,
     pub op: Op,
-    /// The differences of document 01 that this very call met. Views before it were the same: nothing earlier explains the parting.
+    /// The differences that this very call met. Views before it were the same: nothing earlier explains the parting.
     pub fired: Differences,
     /// Whether a difference excuses these two: one of them is the unchanged reference.
     pub excusable: bool,

@@ -21,7 +21,7 @@ const OTHERS_CONTROL: u8 = 0x99;
 /// Nanoseconds after which a clock has 24,000 ticks, the same and a larger remainder, and one tick more with the smallest remainder.
 const MOMENTS: [u64; 3] = [1_000_003, 1_000_013, 1_000_042];
 
-/// The sequences; none of their calls meets a difference of document 01.
+/// The sequences; none of their calls meets a difference.
 pub fn all() -> [Vec<Op>; 2] {
     [unsolicited(), clocks()]
 }
