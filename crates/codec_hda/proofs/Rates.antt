@@ -18,18 +18,18 @@ implied : (a b : Bool) → a ≡ true → T (not a || b) → T b
 implied true b h t = t
 implied false b h t = absurd (true≢false (sym h))
 
+-- a table's entries whose bits the reply has are tested, by computation: so the test holds of each that is declared
+only-declared : (table : List ℕ) (place : ℕ → ℕ) (p : ℕ → Bool)
+    → T (every (λ y. not (eqb (supportedPcm / 2 ^ place y % 2) 1) || p y) table)
+    → (x : ℕ) → among x table && eqb (supportedPcm / 2 ^ place x % 2) 1 ≡ true → T (p x)
+only-declared table place p t x h =
+    let k = both (among x table) (eqb (supportedPcm / 2 ^ place x % 2) 1) h in
+    implied _ (p x) (k .1) (on-list (λ y. not (eqb (supportedPcm / 2 ^ place y % 2) 1) || p y) x table t (k .0))
+
 module _ (node : ℕ) (has : among node formatNodes ≡ true) where
   reply : parameterOf node 0x0a ≡ supportedPcm
   unfolding parameterOf
   reply = eqb→eq _ _ (on-list (λ n. eqb (parameterOf n 0x0a) supportedPcm) node formatNodes tt has)
-
-  -- a table's entries whose bits the reply has are tested, by computation: so the test holds of each that is declared
-  only-declared : (table : List ℕ) (place : ℕ → ℕ) (p : ℕ → Bool)
-      → T (every (λ y. not (eqb (supportedPcm / 2 ^ place y % 2) 1) || p y) table)
-      → (x : ℕ) → among x table && eqb (supportedPcm / 2 ^ place x % 2) 1 ≡ true → T (p x)
-  only-declared table place p t x h =
-      let k = both (among x table) (eqb (supportedPcm / 2 ^ place x % 2) 1) h in
-      implied _ (p x) (k .1) (on-list (λ y. not (eqb (supportedPcm / 2 ^ place y % 2) 1) || p y) x table t (k .0))
 
   pub declared-rates : (r : ℕ)
       → (declaresRate (parameterOf node 0x0a) r ≡ true → Accepted r) × (Accepted r → declaresRate (parameterOf node 0x0a) r ≡ true)

@@ -87,6 +87,7 @@ sampleRates =
 abbrev pub sampleSizes : List ℕ
 sampleSizes = 8 ∷ 16 ∷ 20 ∷ 24 ∷ 32 ∷ []
 
+-- where a number stands in a table, counted from 0
 abbrev pub placeIn : List ℕ → ℕ → ℕ
 placeIn [] x = 0
 placeIn (y ∷ ys) x = cond (eqb x y) 0 (1 + placeIn ys x)
