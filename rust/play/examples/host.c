@@ -45,9 +45,13 @@ static void interrupts(struct sound *s, uint64_t reply)
 static void follow(struct sound *s)
 {
     uint32_t rate = hda_rate(s->device, s->host, 1);
-    if (rate != s->card)
-        printf("playback at %" PRIu32 " frames a second\n", rate);
+    if (rate == s->card)
+        return;
     s->card = rate;
+    if (rate)
+        printf("playback at %" PRIu32 " frames a second\n", rate);
+    else
+        puts("playback closed");
 }
 
 static void timer(struct sound *s, uint64_t now)
