@@ -25,6 +25,10 @@ extern "C" {
 #define HDA_QUEUES_BYTES 4096
 #define HDA_STATE_BYTES_MAX 70380
 
+/* Of a take as a WAV file: its header, and frames behind the header at most. */
+#define HDA_WAV_HEADER_BYTES 44
+#define HDA_WAV_FRAMES_BYTES_MAX 4294967256
+
 /* The numbers that calls return (hda_number). A refusal changes nothing, except HDA_HOST_CLOSED from hda_advance. */
 #define HDA_DONE 0
 #define HDA_HOST_CLOSED 1  /* an opening failed: in hda_advance the stream stopped and what came before stands, in hda_restore nothing changed */
@@ -39,8 +43,10 @@ extern "C" {
 #define HDA_LENT_SPACE 10  /* lists, queues, or the space for a saved state too short */
 #define HDA_ODD_FRAMES 11  /* hda_feed, hda_pull: length no multiple of 4 */
 #define HDA_LATENCY 12     /* hda_set_downstream: above 14,336 or no multiple of 4 */
+#define HDA_WAV 13         /* hda_wav_write: a rate that the box does not have, frames of no multiple of 4 bytes or too many; hda_wav_read: not a file that hda_wav_write makes */
+#define HDA_SHORT_SPACE 14 /* hda_wav_write, hda_wav_read: space for the result too short */
 
-/* Every function returns one number, which these take apart. */
+/* Every function returns one number, which these take apart; hda_wav_write and hda_wav_read have hda_number and two of their own. */
 
 /* One of the numbers above. */
 static inline unsigned hda_number(uint64_t reply) { return (unsigned)(reply & 0xff); }
@@ -157,6 +163,21 @@ uint64_t hda_set_capture_fails(uint8_t *host, size_t host_length, const uint8_t 
 
 /* How many bytes of playback the host holds that left the queue and are not heard yet. */
 uint64_t hda_set_downstream(uint8_t *host, size_t host_length, const uint8_t *queues, size_t queues_length, uint32_t bytes);
+
+/* Takes as WAV files, 16-bit stereo. The calls are handed neither device nor host end. */
+
+/* Bytes that hda_wav_write or hda_wav_read put into the start of `into`: up to 4,294,967,300, more than 32 bits. 0 where it refused. */
+static inline uint64_t hda_wav_bytes(uint64_t reply) { return reply >> 8 & 0xfffffffffu; }
+
+/* The take's rate in frames a second. 0 where the call refused. */
+static inline uint32_t hda_wav_rate(uint64_t reply) { return (uint32_t)(reply >> 44); }
+
+/* Pulled frames as a file from the start of `into` on: a header of HDA_WAV_HEADER_BYTES, then the frames; the rest stays. `rate` is 44,100, 48,000, 88,200 or 96,000. HDA_WAV, then
+ * HDA_SHORT_SPACE. */
+uint64_t hda_wav_write(uint32_t rate, const uint8_t *frames, size_t frames_length, uint8_t *into, size_t into_length);
+
+/* The frames of a file from the start of `into` on; the rest stays. The file is the whole of `file`, and byte for byte one that hda_wav_write makes. HDA_WAV, then HDA_SHORT_SPACE. */
+uint64_t hda_wav_read(const uint8_t *file, size_t file_length, uint8_t *into, size_t into_length);
 
 #ifdef __cplusplus
 }

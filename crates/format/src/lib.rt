@@ -49,7 +49,7 @@ fn base_rate(word: u16) -> u32
 }
 
 // Whether the box has a rate: the one table of them.
-fn supported(rate: u32) -> bool
+pub fn supported(rate: u32) -> bool
     ensures { λ r. ⌜ r ≡ among rate rates ⌝ }
 {
     (rate == 44_100) | (rate == 48_000) | (rate == 88_200) | (rate == 96_000)

@@ -1,6 +1,6 @@
 // The device's C functions (include/hda.h, docs/LAYOUT.md). A slice is a pointer and a length; any bytes of any lengths may come in any order. Each function is the call of
-// crates port_device, port_reads and port_host by its C name. Its contract is the outcome that crate lent_calls gives for that call, the very definition that demand 3 on bytes steps by; bytes
-// that a function is not handed are `none` there. A flag is any number, and all but 0 is true.
+// crates port_device, port_reads, port_host and port_wav by its C name. Its contract is the outcome that crate lent_calls gives for that call, the very definition that demand 3 on bytes steps by; bytes
+// that a function is not handed are `none` there. A flag is any number, and all but 0 is true. The last two are handed no device and no host end, and are no calls of demand 3.
 ghost use mathlib.Core.Path.{_≡_};
 ghost use mathlib.Core.Bool.{not};
 ghost use lib.Dec.{eqb};
@@ -9,6 +9,7 @@ ghost use Rattle.port_device.specs.Calls.{lent, returned, made, none};
 ghost use Rattle.port_reads.specs.Reads.{shown};
 ghost use Rattle.port_host.specs.Calls.{kept, fedOut, pulledOut};
 ghost use Rattle.lent_calls.specs.Calls.{new, hostNew, on, callOf};
+ghost use Rattle.port_wav.specs.Calls.{filledOut, writeOf, readOf};
 
 // A new device into its record.
 #[no_mangle]
@@ -230,4 +231,20 @@ pub extern "C" fn hda_set_downstream(host: &mut [u8], queues: &[u8], bytes: u32)
     ensures { λ r. ⌜ kept r (now (host .exit)) ≡ callOf (on (downstream bytes)) (lent none (now (host .entry)) none (now (queues .entry)) none) ⌝ }
 {
     port_host::set_downstream(host, queues, bytes)
+}
+
+// Pulled frames as a WAV file from the start of the lent space on.
+#[no_mangle]
+pub extern "C" fn hda_wav_write(rate: u32, frames: &[u8], into: &mut [u8]) -> u64
+    ensures { λ r. ⌜ filledOut r (now (into .exit)) ≡ writeOf rate (now (frames .entry)) (now (into .entry)) ⌝ }
+{
+    port_wav::write(rate, frames, into)
+}
+
+// The frames of a WAV file from the start of the lent space on.
+#[no_mangle]
+pub extern "C" fn hda_wav_read(file: &[u8], into: &mut [u8]) -> u64
+    ensures { λ r. ⌜ filledOut r (now (into .exit)) ≡ readOf (now (file .entry)) (now (into .entry)) ⌝ }
+{
+    port_wav::read(file, into)
 }

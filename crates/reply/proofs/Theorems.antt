@@ -3,7 +3,7 @@ use Prim.Native.Nat.{ℕ, _/_, _%_, _^_, _<_}
 use mathlib.Core.Path.{_≡_, _∙_}
 use mathlib.Core.Bool.{Bool, true, false}
 use native.Mathlib.Omega.{arith}
-use Rattle.reply.specs.Replies.{bitOf, replyOf}
+use Rattle.reply.specs.Replies.{bitOf, replyOf, fillReplyOf}
 
 module _ (number value : ℕ) where
   pub low-returned : (level sent : Bool) → replyOf number level sent value % 256 ≡ number % 256
@@ -32,3 +32,14 @@ module _ (number value : ℕ) where
   value-returned true false = omega arith
   value-returned false true = omega arith
   value-returned false false = omega arith
+
+-- the same of a call that fills lent space, up to 64 GiB of it and at rates below 2 ^ 20
+module _ (number count rate : ℕ) (named : number < 256) (counted : count < 2 ^ 36) (rated : rate < 2 ^ 20) where
+  pub fill-number-returned : fillReplyOf number count rate % 256 ≡ number
+  fill-number-returned = omega arith
+
+  pub count-returned : fillReplyOf number count rate / 2 ^ 8 % 2 ^ 36 ≡ count
+  count-returned = omega arith
+
+  pub rate-returned : fillReplyOf number count rate / 2 ^ 44 ≡ rate
+  rate-returned = omega arith

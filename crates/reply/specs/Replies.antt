@@ -20,6 +20,10 @@ bitOf on place = cond on place 0
 abbrev pub replyOf : ℕ → Bool → Bool → ℕ → ℕ
 replyOf number level sent value = number % 256 + bitOf level 0x100 + bitOf sent 0x200 + 2 ^ 32 * value
 
+-- where a call fills lent space: its number in bits 7..0, the bytes that it wrote in bits 43..8, since the largest take as a file (T-02) has more than 32 bits can say, and from bit 44 on the take's frames a second
+abbrev pub fillReplyOf : ℕ → ℕ → ℕ → ℕ
+fillReplyOf number count rate = number % 256 + 2 ^ 8 * (count % 2 ^ 36) + 2 ^ 44 * (rate % 2 ^ 20)
+
 -- bytes that are no record give 9, after 10 for short spaces (document 01, "What must change shape" and "Numbers returned"); there is then no level to report
 abbrev pub unreadableOf : ℕ → ℕ → ℕ
 unreadableOf lists queues = cond (shortOf lists queues) 10 9

@@ -2,7 +2,7 @@
 use pci::Msi;
 ghost use mathlib.Core.Path.{_≡_};
 ghost use Prim.Native.Nat.{_≤_};
-ghost use Rattle.reply.specs.Replies.{isSent, bitOf, replyOf, unreadableOf, isMachine};
+ghost use Rattle.reply.specs.Replies.{isSent, bitOf, replyOf, fillReplyOf, unreadableOf, isMachine};
 
 // Whether there is a message to send.
 pub fn is_sent(msi: Msi) -> bool
@@ -29,6 +29,14 @@ fn bit(on: bool, place: u64) -> u64
     ensures { λ r. ⌜ (r ≡ bitOf on place) × (r ≤ place) ⌝ }
 {
     if on { place } else { 0 }
+}
+
+// The same for a call that fills lent space: bytes that it wrote, which may be more than 32 bits say, and frames a second of what it wrote.
+pub fn fill_reply(number: u32, count: u64, rate: u32) -> u64
+    ensures { λ r. ⌜ r ≡ fillReplyOf number count rate ⌝ }
+{
+    let low = ((number % 256) as u64) + 0x100 * (count % 0x10_0000_0000);
+    low + 0x1000_0000_0000 * ((rate % 0x10_0000) as u64)
 }
 
 // For bytes that are no record: 10 where spaces are short, else 9.

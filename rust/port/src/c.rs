@@ -168,4 +168,6 @@ unsafe extern "C" {
     pub fn hda_set_playback_fails(host: *mut u8, host_length: usize, queues: *const u8, queues_length: usize, fails: u32) -> u64;
     pub fn hda_set_capture_fails(host: *mut u8, host_length: usize, queues: *const u8, queues_length: usize, fails: u32) -> u64;
     pub fn hda_set_downstream(host: *mut u8, host_length: usize, queues: *const u8, queues_length: usize, bytes: u32) -> u64;
+    pub fn hda_wav_write(rate: u32, frames: *const u8, frames_length: usize, into: *mut u8, into_length: usize) -> u64;
+    pub fn hda_wav_read(file: *const u8, file_length: usize, into: *mut u8, into_length: usize) -> u64;
 }

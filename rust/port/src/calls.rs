@@ -2,8 +2,8 @@
 //!
 //! What makes all of them safe: a function reads and writes the slices that it is handed, at most to their lengths, whatever they hold; it keeps none of them. A slice that it
 //! writes comes as `&mut`, so that no other overlaps it.
-use crate::Reply;
 use crate::c;
+use crate::{Reply, WavReply};
 
 /// A new device into `device`.
 pub fn new(device: &mut [u8], lists: &[u8], queues: &[u8], microphone: bool) -> Reply {
@@ -272,4 +272,14 @@ pub fn set_capture_fails(host: &mut [u8], queues: &[u8], fails: bool) -> Reply {
 /// How many bytes the host holds beyond the playback queue.
 pub fn set_downstream(host: &mut [u8], queues: &[u8], bytes: u32) -> Reply {
     Reply(unsafe { c::hda_set_downstream(host.as_mut_ptr(), host.len(), queues.as_ptr(), queues.len(), bytes) })
+}
+
+/// Pulled frames as a WAV file into the start of `into`.
+pub fn wav_write(rate: u32, frames: &[u8], into: &mut [u8]) -> WavReply {
+    WavReply(unsafe { c::hda_wav_write(rate, frames.as_ptr(), frames.len(), into.as_mut_ptr(), into.len()) })
+}
+
+/// The frames of a WAV file, the whole of `file`, into the start of `into`.
+pub fn wav_read(file: &[u8], into: &mut [u8]) -> WavReply {
+    WavReply(unsafe { c::hda_wav_read(file.as_ptr(), file.len(), into.as_mut_ptr(), into.len()) })
 }

@@ -8,6 +8,7 @@ pub mod format;
 pub mod layout;
 mod machine;
 mod reply;
+pub mod wav;
 
 pub use machine::{Bytes, Machine, Stream};
-pub use reply::{Answer, Message, Reply, number};
+pub use reply::{Answer, Message, Reply, WavReply, number};

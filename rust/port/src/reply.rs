@@ -26,6 +26,10 @@ pub mod number {
     pub const LENT_SPACE: u8 = 10;
     pub const ODD_FRAMES: u8 = 11;
     pub const LATENCY: u8 = 12;
+    /// A rate or a length that no take has, or a file of another layout.
+    pub const WAV: u8 = 13;
+    /// Too little space for the result.
+    pub const SHORT_SPACE: u8 = 14;
 }
 
 /// The number that a C function returned. Bits 31..10 are always 0.
@@ -57,6 +61,27 @@ impl Reply {
     pub fn answer(self, record: &[u8; DEVICE]) -> Answer {
         let message = self.sends().then(|| Message::of(record));
         Answer { number: self.number(), level: self.level(), message, value: self.value() }
+    }
+}
+
+/// The number that one of the two calls on takes returned.
+#[derive(Clone, Copy, Debug, PartialEq, Eq)]
+pub struct WavReply(pub u64);
+
+impl WavReply {
+    /// [`number::DONE`], [`number::WAV`] or [`number::SHORT_SPACE`].
+    pub fn number(self) -> u8 {
+        self.0 as u8
+    }
+
+    /// Bytes that the call wrote, more than 32 bits for the largest file; 0 where it refused.
+    pub fn bytes(self) -> u64 {
+        self.0 >> 8 & 0xf_ffff_ffff
+    }
+
+    /// The take's rate in frames a second; 0 where the call refused.
+    pub fn rate(self) -> u32 {
+        (self.0 >> 44) as u32
     }
 }
 
