@@ -128,6 +128,22 @@ mod tests {
     }
 
     #[test]
+    fn each_part_of_a_reply_on_takes_is_read_alone() {
+        let parts = |reply: u64| (WavReply(reply).number(), WavReply(reply).bytes(), WavReply(reply).rate());
+        assert_eq!(parts(0), (0, 0, 0));
+        assert_eq!(parts(13), (13, 0, 0));
+        assert_eq!(parts(0xff), (255, 0, 0));
+        assert_eq!(parts(0x100), (0, 1, 0));
+        assert_eq!(parts(0xfff_ffff_ff00), (0, 0xf_ffff_ffff, 0));
+        assert_eq!(parts(0x1000_0000_0000), (0, 0, 1));
+        assert_eq!(parts(0xffff_f000_0000_0000), (0, 0, 0xf_ffff));
+        assert_eq!(parts(u64::MAX), (255, 0xf_ffff_ffff, 0xf_ffff));
+        // The largest file at the highest rate, and the frames in it.
+        assert_eq!(parts(0x1770_0100_0000_0400), (0, 4_294_967_300, 96_000));
+        assert_eq!(parts(0x1770_00ff_ffff_d800), (0, 4_294_967_256, 96_000));
+    }
+
+    #[test]
     fn a_message_stands_in_the_record() {
         let mut record = [0; DEVICE];
         put::<8>(&mut record, 6 + 0x64, 0x0123_4567_89ab_cdef);
