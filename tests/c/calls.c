@@ -1,5 +1,5 @@
 /* Calls every function of include/hda.h from C and checks a few answers: frames played and captured, a message sent, openings refused by a write and by time, a state saved and restored, slices
- * of length 0 at NULL, the rate of every format word. */
+ * of length 0 at NULL, the rate of every format word, frames written as a WAV file and read back, its header changed byte by byte. */
 #include "hda.h"
 #include <stdio.h>
 #include <string.h>
@@ -284,7 +284,103 @@ static void rates(void)
     CHECK(hda_rate(device, host, 2), 0);
 }
 
-/* Every call without spaces, then every call without records. */
+/* Whether the bytes from `first` to before `end` are all 0xee, which the tests of takes lay before a call. */
+static int untouched(const uint8_t *bytes, size_t first, size_t end)
+{
+    for (size_t i = first; i < end; i++)
+        if (bytes[i] != 0xee)
+            return 0;
+    return 1;
+}
+
+/* Two frames at 88,200 as a file. */
+static const uint8_t take[] = {
+    'R', 'I', 'F', 'F', 44, 0, 0, 0, 'W', 'A', 'V', 'E', 'f', 'm', 't', ' ', 16, 0, 0, 0, 1, 0, 2, 0, 0x88, 0x58, 1, 0, 0x20, 0x62, 5, 0, 4, 0, 16, 0,
+    'd', 'a', 't', 'a', 8, 0, 0, 0, 1, 2, 3, 4, 0xfc, 0xfd, 0xfe, 0xff,
+};
+static const uint8_t *const take_frames = take + HDA_WAV_HEADER_BYTES;
+
+static void wav_written(void)
+{
+    uint8_t into[60];
+    memset(into, 0xee, sizeof into);
+    CHECK(hda_wav_write(88201, take_frames, 8, into, sizeof into), HDA_WAV);
+    CHECK(hda_wav_write(88200, take_frames, 7, into, sizeof into), HDA_WAV);
+    CHECK(hda_wav_write(88201, take_frames, 8, into, 51), HDA_WAV);
+    CHECK(hda_wav_write(88200, take_frames, 8, into, 51), HDA_SHORT_SPACE);
+    CHECK(untouched(into, 0, sizeof into), 1);
+    uint64_t reply = hda_wav_write(88200, take_frames, 8, into, sizeof into);
+    CHECK(hda_number(reply), HDA_DONE);
+    CHECK(hda_wav_bytes(reply), sizeof take);
+    CHECK(hda_wav_rate(reply), 88200);
+    CHECK(memcmp(into, take, sizeof take), 0);
+    CHECK(untouched(into, sizeof take, sizeof into), 1);
+    CHECK(hda_wav_write(88200, take_frames, 8, into, sizeof take), reply);
+}
+
+static void wav_read(void)
+{
+    uint8_t file[sizeof take + 1], into[60];
+    memcpy(file, take, sizeof take);
+    file[sizeof take] = 0;
+    memset(into, 0xee, sizeof into);
+    for (size_t i = 0; i < HDA_WAV_HEADER_BYTES; i++)
+        for (unsigned change = 1; change <= 0xff; change++) {
+            file[i] ^= (uint8_t)change;
+            CHECK(hda_wav_read(file, sizeof take, into, sizeof into), HDA_WAV);
+            file[i] ^= (uint8_t)change;
+        }
+    for (size_t length = 0; length <= sizeof file; length++)
+        if (length != sizeof take)
+            CHECK(hda_wav_read(file, length, into, sizeof into), HDA_WAV);
+    CHECK(hda_wav_read(file, sizeof file, into, 7), HDA_WAV);
+    CHECK(hda_wav_read(file, sizeof take, into, 7), HDA_SHORT_SPACE);
+    CHECK(untouched(into, 0, sizeof into), 1);
+    uint64_t reply = hda_wav_read(file, sizeof take, into, sizeof into);
+    CHECK(hda_number(reply), HDA_DONE);
+    CHECK(hda_wav_bytes(reply), 8);
+    CHECK(hda_wav_rate(reply), 88200);
+    CHECK(memcmp(into, take_frames, 8), 0);
+    CHECK(untouched(into, 8, sizeof into), 1);
+    CHECK(hda_wav_read(file, sizeof take, into, 8), reply);
+}
+
+/* A take of no frames is a file too, and each length that may be 0 is so at NULL. */
+static void wav_empty(void)
+{
+    uint8_t file[HDA_WAV_HEADER_BYTES];
+    uint64_t written = hda_wav_write(44100, NOTHING, file, sizeof file);
+    CHECK(hda_number(written), HDA_DONE);
+    CHECK(hda_wav_bytes(written), 44);
+    CHECK(hda_wav_rate(written), 44100);
+    CHECK(stands(file, 4, 4), 36);
+    CHECK(stands(file, 24, 4), 44100);
+    CHECK(stands(file, 28, 4), 176400);
+    CHECK(stands(file, 40, 4), 0);
+    uint64_t read = hda_wav_read(file, sizeof file, NOTHING);
+    CHECK(hda_number(read), HDA_DONE);
+    CHECK(hda_wav_bytes(read), 0);
+    CHECK(hda_wav_rate(read), 44100);
+    CHECK(hda_wav_read(take, sizeof take, NOTHING), HDA_SHORT_SPACE);
+    CHECK(hda_wav_write(44100, take_frames, 8, NOTHING), HDA_SHORT_SPACE);
+    CHECK(hda_wav_write(44100, NOTHING, NOTHING), HDA_SHORT_SPACE);
+    CHECK(hda_wav_write(0, NOTHING, NOTHING), HDA_WAV);
+    CHECK(hda_wav_read(NOTHING, file, sizeof file), HDA_WAV);
+    CHECK(hda_wav_read(NOTHING, NOTHING), HDA_WAV);
+}
+
+/* The bits of a returned number: those of the largest file, and each part alone. */
+static void wav_replies(void)
+{
+    const uint64_t largest = (uint64_t)96000 << 44 | (HDA_WAV_FRAMES_BYTES_MAX + (uint64_t)HDA_WAV_HEADER_BYTES) << 8;
+    CHECK(hda_number(largest), HDA_DONE);
+    CHECK(hda_wav_bytes(largest), 4294967300);
+    CHECK(hda_wav_rate(largest), 96000);
+    CHECK(hda_wav_bytes(0xfffff000000000ff), 0);
+    CHECK(hda_wav_rate(0x00000fffffffffff), 0);
+}
+
+/* Every call on records without spaces, then without records. */
 static void nothing(void)
 {
     const uint64_t short_spaces[] = {
@@ -343,6 +439,10 @@ int main(void)
     empty();
     exchanged();
     rates();
+    wav_written();
+    wav_read();
+    wav_empty();
+    wav_replies();
     nothing();
     printf("%d checks, %d failed\n", checks, failures);
     return failures != 0;
