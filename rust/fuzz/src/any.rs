@@ -1,4 +1,5 @@
-//! Any call on any bytes, for tests of what calls refuse: records of any length and content, spaces of any length.
+//! Any call on any bytes, for tests of what calls refuse: records of any length and content, spaces of any length. Those on WAV files, which are handed none of
+//! these, are in [`crate::takes`].
 use port::layout::{DEVICE, HOST, LIST, LISTS, MAX_DOWNSTREAM, POSITIONS, QUEUE, QUEUES, STREAMS, device, get, host, stream};
 use port::{Machine, Reply, calls, number};
 

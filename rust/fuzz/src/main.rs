@@ -1,18 +1,21 @@
 //! fuzz SEED ROUNDS: calls of any kind in any order on bytes of any length and content, most of them near a valid machine's.
 //!
 //! After each call: the number is one that document 01 gives here, 9 and 10 exactly where its conditions say so; a refusal has changed no byte, and any call only what
-//! docs/LAYOUT.md says; a machine that a call accepted is still valid; a restored machine is the one that document 01 says. Round R of a seed is round 0 of seed + R. That
-//! a call returns is seen by the run's end.
+//! docs/LAYOUT.md says; a machine that a call accepted is still valid; a restored machine is the one that document 01 says. A call on a take returns and leaves exactly what
+//! T-02 says. Round R of a seed is round 0 of seed + R. That a call returns is seen by the run's end.
+mod files;
+
 use fuzz::any::{Call, Handed, Lent, is_valid_downstream};
-use fuzz::states;
+use fuzz::{states, takes};
 use port::layout::{DEVICE, HOST, LIST, LISTS, MAX_STATE, POSITIONS, QUEUES, STATE, STREAMS, device, get, host, put, stream};
 use port::{Machine, Reply, number};
 use random::Random;
 use std::collections::BTreeMap;
 use std::process::ExitCode;
 
-/// Calls of a round.
+/// Calls of a round on a machine, and on takes.
 const CALLS: usize = 40;
+const TAKES: usize = 20;
 
 fn main() -> ExitCode {
     let words: Vec<Option<u64>> = std::env::args().skip(1).map(|word| word.parse().ok()).collect();
@@ -22,8 +25,9 @@ fn main() -> ExitCode {
     };
     let mut seen = BTreeMap::new();
     for round in 0..rounds {
-        if let Err(error) = play(seed.wrapping_add(round), &mut seen) {
-            println!("fuzz {} 1: {error}", seed.wrapping_add(round));
+        let seed = seed.wrapping_add(round);
+        if let Err(error) = play(seed, &mut seen).and_then(|()| play_takes(seed, &mut seen)) {
+            println!("fuzz {seed} 1: {error}");
             return ExitCode::FAILURE;
         }
     }
@@ -54,12 +58,35 @@ fn play(seed: u64, seen: &mut BTreeMap<String, u64>) -> Result<(), String> {
     Ok(())
 }
 
-/// A copy, each part an allocation of its own that ends where the bytes end: a memory checker then sees an access beyond (rust/fuzz-checked).
+/// A round's calls on takes. Their random numbers are others, so that a seed's calls on a machine are what they were without these.
+fn play_takes(seed: u64, seen: &mut BTreeMap<String, u64>) -> Result<(), String> {
+    let mut random = Random::new(!seed);
+    for _ in 0..TAKES {
+        let (call, before) = files::call(&mut random);
+        let mut lent = before.clone();
+        assert_exact([&lent.given, &lent.into]);
+        let reply = call.make(&mut lent);
+        let kind = if call == takes::Call::Read { "read" } else { "write" };
+        *seen.entry(format!("Wav {kind} gave {}", reply.number())).or_default() += 1;
+        let (expected, after) = call.expected(&before);
+        if (reply, &lent) != (expected, &after) {
+            let what = if reply == expected { "other bytes than T-02 says".into() } else { format!("not {:#x}", expected.0) };
+            return Err(format!("{call:?} of {} bytes into {} returned {:#x}: {what}", before.given.len(), before.into.len(), reply.0));
+        }
+    }
+    Ok(())
+}
+
+/// A copy, each part an allocation of its own.
 fn exact(lent: &Lent) -> Lent {
     let copy = lent.clone();
-    let parts = [&copy.device, &copy.host, &copy.lists, &copy.queues, &copy.memory, &copy.buffer];
-    assert!(parts.iter().all(|part| part.capacity() == part.len()), "an allocation is longer than its bytes");
+    assert_exact([&copy.device, &copy.host, &copy.lists, &copy.queues, &copy.memory, &copy.buffer]);
     copy
+}
+
+/// Allocations end where the bytes end: a memory checker then sees an access beyond (rust/fuzz-checked).
+fn assert_exact<const N: usize>(parts: [&Vec<u8>; N]) {
+    assert!(parts.iter().all(|part| part.capacity() == part.len()), "an allocation is longer than its bytes");
 }
 
 fn check(call: Call, reply: Reply, before: &Lent, after: &Lent) -> Result<(), String> {
