@@ -18,16 +18,30 @@ pub fn cpu_time() -> u64 {
 
 /// Median times of the two, and the median of their quotients.
 pub struct Times {
-    pub rust: f64,
+    /// Of what the port is compared with.
+    pub other: f64,
     pub port: f64,
     pub ratio: f64,
 }
 
+impl Times {
+    /// A line of a table. The aim is how many times as fast as the other the port is to be.
+    pub fn row(&self, name: &str, aim: Option<f64>) -> String {
+        let aim = aim.map_or("no aim".into(), |aim| format!("{aim:.2}, {}", if self.ratio >= aim { "met" } else { "not met" }));
+        format!("| {name} | {} | {} | {:.2} | {aim} |", short(self.other), short(self.port), self.ratio)
+    }
+}
+
+/// Three digits are enough.
+fn short(nanoseconds: f64) -> String {
+    format!("{nanoseconds:.*}", usize::from(nanoseconds < 100.0))
+}
+
 /// Rounds that take turns, so that a change of the machine's clock rate meets both.
-pub fn by_turns(rounds: usize, mut rust: impl FnMut() -> f64, mut port: impl FnMut() -> f64) -> Times {
-    let times: Vec<(f64, f64)> = (0..rounds).map(|_| (rust(), port())).collect();
+pub fn by_turns(rounds: usize, mut other: impl FnMut() -> f64, mut port: impl FnMut() -> f64) -> Times {
+    let times: Vec<(f64, f64)> = (0..rounds).map(|_| (other(), port())).collect();
     let median_of = |part: fn(&(f64, f64)) -> f64| median(times.iter().map(part).collect());
-    Times { rust: median_of(|times| times.0), port: median_of(|times| times.1), ratio: median_of(|times| times.0 / times.1) }
+    Times { other: median_of(|times| times.0), port: median_of(|times| times.1), ratio: median_of(|times| times.0 / times.1) }
 }
 
 pub fn median(mut times: Vec<f64>) -> f64 {

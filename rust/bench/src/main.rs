@@ -25,7 +25,7 @@ fn main() {
     ] {
         let codec = rust::Codec::new(left, right);
         let times = by_turns(ROUNDS, || time(&|pcm| codec.amplify(pcm)), || time(&|pcm| leaves::amplify(pcm, left, right)));
-        println!("{name:<28} {:>8.2} {:>8.2} {:>8.1}", times.rust, times.port, times.ratio);
+        println!("{name:<28} {:>8.2} {:>8.2} {:>8.1}", times.other, times.port, times.ratio);
     }
 }
 

@@ -2,7 +2,7 @@
 mod operations;
 mod sides;
 
-use bench::{Times, by_turns, cpu_time, median};
+use bench::{by_turns, cpu_time, median};
 use operations::{Command, ConfigRead, ConfigWrite, Frames, Idle, Operation, Period, Pieces, Read, Restore, Save, Write};
 use sides::{Port, Rust, Side};
 use std::hint::black_box;
@@ -71,14 +71,8 @@ fn row<O: Operation>(clock: f64, name: &str, aim: Option<f64>, operation: O) {
     compare(name, &operation);
     let mut rust = Batch::<Rust>::new(&operation);
     let mut port = Batch::<Port>::new(&operation);
-    let Times { rust, port, ratio } = by_turns(ROUNDS, || rust.time(clock, &operation), || port.time(clock, &operation));
-    let aim = aim.map_or("no aim".into(), |aim| format!("{aim:.2}, {}", if ratio >= aim { "met" } else { "not met" }));
-    println!("| {name} | {} | {} | {ratio:.2} | {aim} |", short(rust), short(port));
-}
-
-/// Three digits are enough.
-fn short(nanoseconds: f64) -> String {
-    format!("{nanoseconds:.*}", usize::from(nanoseconds < 100.0))
+    let times = by_turns(ROUNDS, || rust.time(clock, &operation), || port.time(clock, &operation));
+    println!("{}", times.row(name, aim));
 }
 
 /// Both give the same and leave the same; times of two that differ would say nothing.
