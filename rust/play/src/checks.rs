@@ -1,6 +1,8 @@
-//! What must hold of a take.
+//! What must hold of a take and of its file.
 use crate::guest::FRAME;
 use crate::session::Take;
+use std::fs;
+use std::path::Path;
 
 /// One line of the summary.
 pub struct Check {
@@ -9,7 +11,15 @@ pub struct Check {
     pub result: Result<String, String>,
 }
 
-pub fn all(take: &Take) -> Vec<Check> {
+/// Those of a take whose file stands at `path`.
+pub fn all(take: &Take, path: &Path) -> Vec<Check> {
+    let mut checks = of_take(take);
+    checks.push(Check { name: "file", result: file(take, path) });
+    checks
+}
+
+/// Those that need no file.
+fn of_take(take: &Take) -> Vec<Check> {
     [
         ("commands", commands as fn(&Take) -> Result<String, String>),
         ("rate", rate),
@@ -102,6 +112,22 @@ fn interrupts(take: &Take) -> Result<String, String> {
     Ok(format!("{ends} descriptor ends passed, {ends} completions, one message each with the guest's address and data"))
 }
 
+/// What stands in the file, read back by the proved reader, is what the host got.
+fn file(take: &Take, path: &Path) -> Result<String, String> {
+    let bytes = fs::read(path).map_err(|error| format!("cannot be read back: {error}"))?;
+    let read = port::wav::take(&bytes).map_err(|number| format!("{} bytes: no take, refused with number {number}", count(bytes.len())))?;
+    if read.rate != take.rate {
+        return Err(format!("{} frames a second, the take has {}", count(read.rate as usize), count(take.rate as usize)));
+    }
+    if let Some(at) = read.frames.chunks(FRAME).zip(take.pulled.chunks(FRAME)).position(|(read, pulled)| read != pulled) {
+        return Err(format!("frame {} is not the one that the host got", count(at)));
+    }
+    if read.frames.len() != take.pulled.len() {
+        return Err(format!("{} frames, the take has {}", count(read.frames.len() / FRAME), count(take.pulled.len() / FRAME)));
+    }
+    Ok(format!("{} bytes: read back, the same rate and every frame", count(bytes.len())))
+}
+
 /// A number with its thousands set apart.
 pub fn count(number: usize) -> String {
     let digits = number.to_string();
@@ -122,6 +148,8 @@ mod tests {
     use crate::format::{FORMATS, Format};
     use crate::guest::Ring;
     use crate::session::{Host, play};
+    use port::wav;
+    use std::{env, process};
 
     fn take_at(rate: u32, word: u16, (period, periods): (usize, usize), downstream: usize) -> Outcome<Take> {
         // No two frames alike.
@@ -134,7 +162,7 @@ mod tests {
     }
 
     fn failing(take: &Take) -> Vec<&'static str> {
-        all(take).into_iter().filter(|check| check.result.is_err()).map(|check| check.name).collect()
+        of_take(take).into_iter().filter(|check| check.result.is_err()).map(|check| check.name).collect()
     }
 
     #[test]
@@ -203,6 +231,62 @@ mod tests {
         assert_eq!(wrong(|take| _ = take.completions.pop()), ["interrupts"]);
         assert_eq!(wrong(|take| take.messages += 1), ["interrupts"]);
         assert_eq!(wrong(|take| take.responses -= 1), ["commands", "interrupts"]);
+    }
+
+    /// The check of a take with these bytes in its file, which `test` names.
+    fn file_with(test: &str, bytes: &[u8], take: &Take) -> Result<String, String> {
+        let path = env::temp_dir().join(format!("hda-{test}-{}.wav", process::id()));
+        fs::write(&path, bytes).unwrap();
+        let result = file(take, &path);
+        fs::remove_file(&path).unwrap();
+        result
+    }
+
+    #[test]
+    fn the_file_of_a_take_is_read_back() {
+        for Format { rate, word } in FORMATS {
+            let take = take_at(rate, word, (4800, 4), 3840).unwrap();
+            let bytes = wav::file(take.rate, &take.pulled).unwrap();
+            assert_eq!(wav::take(&bytes), Ok(wav::Take { rate, frames: take.pulled.clone() }));
+            let seen = format!("{} bytes: read back, the same rate and every frame", count(wav::HEADER + take.pulled.len()));
+            assert_eq!(file_with("file-read-back", &bytes, &take), Ok(seen));
+        }
+    }
+
+    #[test]
+    fn a_damaged_file_is_seen() {
+        let take = take(4800, 4, 3840);
+        let bytes = wav::file(take.rate, &take.pulled).unwrap();
+        let damaged = |bytes: &[u8]| file_with("file-damaged", bytes, &take);
+        let refused = |length: usize| Err(format!("{} bytes: no take, refused with number 13", count(length)));
+        for place in 0..wav::HEADER {
+            let mut bytes = bytes.clone();
+            bytes[place] ^= 1;
+            assert_eq!(damaged(&bytes), refused(bytes.len()), "byte {place}");
+        }
+        for length in [0, wav::HEADER - 1, wav::HEADER, bytes.len() - 4, bytes.len() - 1] {
+            assert_eq!(damaged(&bytes[..length]), refused(length));
+        }
+        assert_eq!(damaged(&[&bytes[..], &[0; 4]].concat()), refused(bytes.len() + 4));
+        let mut changed = bytes.clone();
+        changed[wav::HEADER + 4001] ^= 1;
+        assert_eq!(damaged(&changed), Err("frame 1,000 is not the one that the host got".into()));
+    }
+
+    #[test]
+    fn the_file_of_another_take_is_seen() {
+        let take = take(4800, 4, 3840);
+        let other = |rate, frames: &[u8]| file_with("file-other", &wav::file(rate, frames).unwrap(), &take);
+        let [pulled, fewer] = [take.pulled.len(), take.pulled.len() - 4].map(|bytes| count(bytes / 4));
+        assert_eq!(other(88_200, &take.pulled), Err("88,200 frames a second, the take has 48,000".into()));
+        assert_eq!(other(48_000, &take.pulled[..take.pulled.len() - 4]), Err(format!("{fewer} frames, the take has {pulled}")));
+    }
+
+    #[test]
+    fn a_file_that_is_not_there_is_seen() {
+        let path = env::temp_dir().join(format!("hda-file-nowhere-{}.wav", process::id()));
+        let seen = file(&take(4800, 4, 3840), &path).unwrap_err();
+        assert!(seen.starts_with("cannot be read back: "), "{seen}");
     }
 
     #[test]

@@ -6,11 +6,12 @@ mod format;
 mod guest;
 mod picture;
 mod session;
-mod wav;
 
+use checks::Check;
 use format::{FORMATS, Format};
 use guest::{FRAME, Ring};
 use session::{Host, Take};
+use std::fmt::Display;
 use std::io::Write;
 use std::path::Path;
 use std::process::ExitCode;
@@ -50,19 +51,30 @@ fn chosen(rate: &str) -> Result<Format, String> {
 
 /// Whether every check passed.
 fn run(format: Format, folder: &Path) -> Result<bool, String> {
-    let refused = |path: &Path, error: io::Error| format!("cannot write {}: {error}", path.display());
-    fs::create_dir_all(folder).map_err(|error| refused(folder, error))?;
+    fs::create_dir_all(folder).map_err(|error| not_written(folder, error))?;
     let take = play(format)?;
-    let files = [("take.wav", wav::file(&take.pulled, take.rate)), ("take.svg", picture::draw(&take).into_bytes())];
-    for (name, bytes) in &files {
-        let path = folder.join(name);
-        fs::write(&path, bytes).map_err(|error| refused(&path, error))?;
+    let [wav, svg] = ["take.wav", "take.svg"].map(|name| folder.join(name));
+    let sound = sound_file(&take).map_err(|refusal| not_written(&wav, refusal))?;
+    for (path, bytes) in [(&wav, sound), (&svg, picture::draw(&take).into_bytes())] {
+        fs::write(path, bytes).map_err(|error| not_written(path, error))?;
     }
-    let passed = summary(&take);
-    for (name, _) in &files {
-        println!("wrote {}", folder.join(name).display());
+    let passed = summary(&take, &checks::all(&take, &wav));
+    for path in [wav, svg] {
+        println!("wrote {}", path.display());
     }
     Ok(passed)
+}
+
+fn not_written(path: &Path, reason: impl Display) -> String {
+    format!("cannot write {}: {reason}", path.display())
+}
+
+/// What the host got, as a WAV file.
+fn sound_file(take: &Take) -> Result<Vec<u8>, String> {
+    port::wav::file(take.rate, &take.pulled).map_err(|number| {
+        let [bytes, rate] = [take.pulled.len(), take.rate as usize].map(checks::count);
+        format!("{bytes} bytes of frames, {rate} frames a second, were refused with number {number}")
+    })
 }
 
 /// The take, with progress on standard error.
@@ -81,15 +93,15 @@ fn play(format: Format) -> Result<Take, String> {
     take
 }
 
-fn summary(take: &Take) -> bool {
+/// Whether every check passed.
+fn summary(take: &Take, checks: &[Check]) -> bool {
     println!(
         "{} seconds of drums, {} timer ticks, ring of {} periods",
         take.sound / FRAME / take.rate as usize,
         checks::count(take.ticks.len()),
         take.ring.periods
     );
-    let checks = checks::all(take);
-    for check in &checks {
+    for check in checks {
         let (mark, text) = match &check.result {
             Ok(text) => ("ok    ", text),
             Err(text) => ("FAILED", text),
@@ -106,18 +118,31 @@ mod tests {
     use super::*;
 
     #[test]
-    fn the_drums_pass_at_every_rate_and_the_picture_says_which() {
+    fn the_drums_pass_at_every_rate_and_both_files_say_which() {
         for (rate, kilohertz, four_seconds) in
             [("44100", "44.1 kHz", "176.4"), ("48000", "48 kHz", "192"), ("88200", "88.2 kHz", "352.8"), ("96000", "96 kHz", "384")]
         {
-            let take = play(chosen(rate).unwrap()).unwrap();
-            assert!(summary(&take), "at {rate}");
-            let picture = picture::draw(&take);
+            let folder = env::temp_dir().join(format!("hda-play-{rate}-{}", std::process::id()));
+            assert_eq!(run(chosen(rate).unwrap(), &folder), Ok(true), "at {rate}");
+            let [wav, svg] = ["take.wav", "take.svg"].map(|name| fs::read(folder.join(name)).unwrap());
+            fs::remove_dir_all(&folder).unwrap();
+            assert_eq!(port::wav::take(&wav).unwrap().rate.to_string(), rate);
+            let picture = String::from_utf8(svg).unwrap();
             assert!(
                 picture.contains(&format!(">{kilohertz}, 16-bit stereo;")) && picture.contains(&format!(">{four_seconds}<")),
                 "at {rate}"
             );
         }
+    }
+
+    #[test]
+    fn a_take_that_no_file_holds_is_refused() {
+        let mut take = play(FORMATS[1]).unwrap();
+        take.rate = 50_000;
+        assert_eq!(sound_file(&take), Err("772,096 bytes of frames, 50,000 frames a second, were refused with number 13".into()));
+        take.rate = 48_000;
+        take.pulled.pop();
+        assert_eq!(sound_file(&take), Err("772,095 bytes of frames, 48,000 frames a second, were refused with number 13".into()));
     }
 
     #[test]
