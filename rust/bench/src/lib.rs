@@ -37,9 +37,9 @@ fn short(nanoseconds: f64) -> String {
     format!("{nanoseconds:.*}", usize::from(nanoseconds < 100.0))
 }
 
-/// Rounds that take turns, so that a change of the machine's clock rate meets both.
-pub fn by_turns(rounds: usize, mut other: impl FnMut() -> f64, mut port: impl FnMut() -> f64) -> Times {
-    let times: Vec<(f64, f64)> = (0..rounds).map(|_| (other(), port())).collect();
+/// Rounds in which both take a turn, the other first, so that a change of the machine's clock rate meets both.
+pub fn by_turns(rounds: usize, mut round: impl FnMut() -> (f64, f64)) -> Times {
+    let times: Vec<(f64, f64)> = (0..rounds).map(|_| round()).collect();
     let median_of = |part: fn(&(f64, f64)) -> f64| median(times.iter().map(part).collect());
     Times { other: median_of(|times| times.0), port: median_of(|times| times.1), ratio: median_of(|times| times.0 / times.1) }
 }

@@ -24,7 +24,7 @@ fn main() {
         ("silence / silence", 0xca, 0xca),
     ] {
         let codec = rust::Codec::new(left, right);
-        let times = by_turns(ROUNDS, || time(&|pcm| codec.amplify(pcm)), || time(&|pcm| leaves::amplify(pcm, left, right)));
+        let times = by_turns(ROUNDS, || (time(&|pcm| codec.amplify(pcm)), time(&|pcm| leaves::amplify(pcm, left, right))));
         println!("{name:<28} {:>8.2} {:>8.2} {:>8.1}", times.other, times.port, times.ratio);
     }
 }

@@ -3,15 +3,15 @@ use bench::{by_turns, cpu_time, noise};
 use port::calls::{wav_read, wav_write};
 use port::wav::{self, HEADER};
 use port::{WavReply, number};
-use std::cell::RefCell;
 use std::hint::black_box;
+use std::ops::Range;
 
 const RATE: u32 = 48_000;
 /// Bytes of frames in a second.
 const SECOND: usize = 4 * RATE as usize;
 /// Bytes of frames that a side moves between two looks at the clock: the longest take once, shorter ones as often as it takes.
 const MOVED: usize = 600 * SECOND;
-const ROUNDS: usize = 15;
+const ROUNDS: usize = 25;
 /// How many times as fast as the copy a call is to be.
 const AIM: f64 = 0.80;
 
@@ -22,24 +22,28 @@ fn main() {
         // A prime number of bytes again and again, so that frames at a wrong place show.
         let frames: Vec<u8> = noise::<65_521>().into_iter().cycle().take(seconds * SECOND).collect();
         let file = wav::file(RATE, &frames).expect("frames of a take");
-        row(&format!("take written, {name}"), HEADER, &frames, |into| wav_write(RATE, black_box(&frames), into));
-        row(&format!("take read, {name}"), 0, &file[HEADER..], |into| wav_read(black_box(&file), into));
+        row(&format!("take written, {name}"), HEADER, &frames, 0..frames.len(), |frames, into| wav_write(RATE, frames, into));
+        row(&format!("take read, {name}"), 0, &file, HEADER..file.len(), wav_read);
     }
 }
 
-/// A line of the table: a call that fills a space with `start` bytes and the frames, against a plain copy of the frames to the same place.
-fn row(name: &str, start: usize, frames: &[u8], call: impl Fn(&mut [u8]) -> WavReply) {
-    let mut space = vec![0; start + frames.len()];
-    let copy = |into: &mut [u8]| into[start..].copy_from_slice(black_box(frames));
-    compare(name, start, &mut space, copy, &call);
-    // Both fill the same space, so that its place in memory favours neither.
-    let space = RefCell::new(space);
+/// A line of the table: a call on `given` that fills a space with `start` bytes and the frames in it, against a plain copy of the frames to the same place.
+fn row(name: &str, start: usize, given: &[u8], frames: Range<usize>, call: impl Fn(&[u8], &mut [u8]) -> WavReply) {
     let runs = MOVED / frames.len();
-    let times = by_turns(
-        ROUNDS,
-        || time(runs, || copy(black_box(&mut space.borrow_mut()))),
-        || time(runs, || _ = black_box(call(black_box(&mut space.borrow_mut())))),
-    );
+    // Each round has memory of its own, in which both move the same bytes between the same places, and by rounds the copy or the call is first: place and order count, and favour neither.
+    let mut order = [0, 1];
+    let times = by_turns(ROUNDS, || {
+        let (given, mut space) = (given.to_vec(), vec![0; start + frames.len()]);
+        let copy = |into: &mut [u8]| into[start..].copy_from_slice(black_box(&given[frames.clone()]));
+        let call = |into: &mut [u8]| call(black_box(&given), into);
+        compare(name, start, &mut space, copy, call);
+        let mut times = [0.0; 2];
+        for side in order {
+            times[side] = time(runs, || if side == 0 { copy(black_box(&mut space)) } else { _ = black_box(call(black_box(&mut space))) });
+        }
+        order.reverse();
+        times.into()
+    });
     println!("{}", times.row(name, Some(AIM)));
 }
 

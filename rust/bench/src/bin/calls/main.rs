@@ -71,7 +71,7 @@ fn row<O: Operation>(clock: f64, name: &str, aim: Option<f64>, operation: O) {
     compare(name, &operation);
     let mut rust = Batch::<Rust>::new(&operation);
     let mut port = Batch::<Port>::new(&operation);
-    let times = by_turns(ROUNDS, || rust.time(clock, &operation), || port.time(clock, &operation));
+    let times = by_turns(ROUNDS, || (rust.time(clock, &operation), port.time(clock, &operation)));
     println!("{}", times.row(name, aim));
 }
 
