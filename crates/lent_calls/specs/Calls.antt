@@ -1,4 +1,4 @@
--- Every C function as one type of call: what it returns with the bytes that it changes, which is the right side of its contract, and all that a caller lends after it.
+-- Every C function on a device or a host end as one type of call: what it returns with the bytes that it changes, which is the right side of its contract, and all that a caller lends after it.
 use Prim.Native.Nat.{ℕ}
 use mathlib.Core.Bool.{Bool}
 use mathlib.Core.List.{List}

@@ -5,14 +5,14 @@ ghost use lib.ListN.{length, take};
 ghost use Rattle.wav.specs.Header.{headerOf};
 ghost use Rattle.wav.specs.Files.{sizeLimit, storable, same, isFile, filledOf, fillOut, writeOf, readOf};
 
-// What a call answers beside the lent space: its number, the frames a second of the take, and how many bytes it wrote. A refusal has no rate and wrote none.
+// What a call answers beside the lent space: how many bytes it wrote, its number, and the frames a second of the take. A refusal wrote none and has no rate.
 pub struct Filled {
+    pub count: u64,
     pub number: u32,
     pub rate: u32,
-    pub count: u64,
 }
 
-// Bytes of the header, and of frames behind it at most: the largest whole frames with which the file's own size field fits 32 bits.
+// Bytes of the header, and of frames behind it at most: with one frame more the file's own size would not fit 32 bits.
 pub const HEADER_BYTES: usize = 44;
 
 pub const MAX_FRAMES_BYTES: usize = 4_294_967_256;
@@ -35,7 +35,7 @@ fn is_storable(rate: u32, size: usize) -> bool
     format::supported(rate) & ((size % 4 == 0) & (size <= MAX_FRAMES_BYTES))
 }
 
-// The header of so many bytes of frames: what all files have alike, and the four fields in which they differ.
+// The header of a file with `size` bytes of frames: what all files have alike, and the four fields in which they differ.
 fn header(rate: u32, size: u32) -> [u8; 44]
     requires { ⌜ (rate ≤ 96_000) × (size ≤ sizeLimit) ⌝ }
     ensures { λ r. ⌜ r ≡ headerOf rate size ⌝ }
