@@ -2,15 +2,17 @@
 use Prim.Native.Nat.{ℕ, _/_, _%_, _^_, _≤_, _<_}
 use mathlib.Core.Path.{_≡_, ap, _∙_}
 use mathlib.Core.Bool.{true}
-use mathlib.Core.List.{List}
+use mathlib.Core.List.{List, _++_}
 use native.Mathlib.Omega.{arith}
-use lib.ListN.{length}
+use lib.ListN.{length, take, drop}
 use Rattle.wav.specs.declared.Filled.{Filled}
 use Rattle.wav.specs.Files as wav
 use Rattle.wav.proofs.Files.{length-file}
 use Rattle.wav.proofs.Theorems.{Small, write-small, read-small, writes}
+use Rattle.wav.proofs.Theorems as files
+use Rattle.reply.specs.Replies.{fillReplyOf}
 use Rattle.reply.proofs.Theorems.{fill-number-returned, count-returned, rate-returned}
-use Rattle.port_wav.specs.Calls.{filledOf, writeOf, readOf}
+use Rattle.port_wav.specs.Calls.{filledOut, filledOf, writeOf, readOf}
 
 -- the parts of a reply, where include/hda.h takes them from: hda_number, hda_wav_bytes, hda_wav_rate
 pub record Returned (reply : ℕ) (f : Filled) : Type 0 where
@@ -44,3 +46,20 @@ pub largest : (rate : ℕ) (frames into : List ℕ) → wav.storable rate (lengt
 largest rate frames into h size room =
     let all : length (wav.fileOf rate frames) ≡ 4_294_967_300 = omega (arith, length-file rate frames) in
     write-returned rate frames into .count ∙ ap (λ (f : wav.Fill). f .filled .count) (writes rate frames into h (omega arith)) ∙ all
+
+-- ---- there and back, by what a caller has: the space, of which the reply says how much was filled
+
+pub read-written : (rate : ℕ) (frames into back : List ℕ) → wav.storable rate (length frames) ≡ true → length (wav.fileOf rate frames) ≤ length into → length frames ≤ length back
+    → (let w = writeOf rate frames into in readOf (take (w .reply / 2 ^ 8 % 2 ^ 36) (w .into)) back)
+    ≡ filledOut (fillReplyOf 0 (length frames) rate) (frames ++ drop (length frames) back)
+unfolding writeOf readOf
+read-written rate frames into back h room more =
+    rw (write-returned rate frames into .count) (ap filledOf (files.read-written rate frames into back h room more))
+
+pub written-again : (file into out : List ℕ) → wav.isFile file ≡ true → length (wav.framesIn file) ≤ length into → length file ≤ length out
+    → (let r = readOf file into in writeOf (r .reply / 2 ^ 44) (take (r .reply / 2 ^ 8 % 2 ^ 36) (r .into)) out)
+    ≡ filledOut (fillReplyOf 0 (length file) (wav.rateIn file)) (file ++ drop (length file) out)
+unfolding writeOf readOf
+written-again file into out h room more =
+    let r = read-returned file into in
+    rw (r .rate, r .count) (ap filledOf (files.written-again file into out h room more))

@@ -13,9 +13,9 @@ pub struct Filled {
 }
 
 // Bytes of the header, and of frames behind it at most: with one frame more the file's own size would not fit 32 bits.
-pub const HEADER_BYTES: usize = 44;
+const HEADER_BYTES: usize = 44;
 
-pub const MAX_FRAMES_BYTES: usize = 4_294_967_256;
+const MAX_FRAMES_BYTES: usize = 4_294_967_256;
 
 const FRAME_BYTES: u32 = 4;
 
