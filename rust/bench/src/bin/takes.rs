@@ -30,21 +30,41 @@ fn main() {
 /// A line of the table: a call on `given` that fills a space with `start` bytes and the frames in it, against a plain copy of the frames to the same place.
 fn row(name: &str, start: usize, given: &[u8], frames: Range<usize>, call: impl Fn(&[u8], &mut [u8]) -> WavReply) {
     let runs = MOVED / frames.len();
-    // Each round has memory of its own, in which both move the same bytes between the same places, and by rounds the copy or the call is first: place and order count, and favour neither.
-    let mut order = [0, 1];
+    // By rounds the copy or the call is first, and each round has memory of its own, in which both move the same bytes between the same places: order and place count, and favour neither. Memory that
+    // is given back would be handed out again, so it is kept; that of the longest take goes back to the system itself, and would be too much.
+    let (mut order, mut kept) = ([0, 1], Vec::new());
     let times = by_turns(ROUNDS, || {
         let (given, mut space) = (given.to_vec(), vec![0; start + frames.len()]);
-        let copy = |into: &mut [u8]| into[start..].copy_from_slice(black_box(&given[frames.clone()]));
-        let call = |into: &mut [u8]| call(black_box(&given), into);
-        compare(name, start, &mut space, copy, call);
-        let mut times = [0.0; 2];
-        for side in order {
-            times[side] = time(runs, || if side == 0 { copy(black_box(&mut space)) } else { _ = black_box(call(black_box(&mut space))) });
-        }
+        let times = round(name, start, &given, frames.clone(), &mut space, &call, runs, order);
         order.reverse();
-        times.into()
+        if runs > 1 {
+            kept.push((given, space));
+        }
+        times
     });
     println!("{}", times.row(name, Some(AIM)));
+}
+
+/// The times of copy and call in the order that is named, by 0 and 1, after they were compared.
+#[allow(clippy::too_many_arguments)]
+fn round(
+    name: &str,
+    start: usize,
+    given: &[u8],
+    frames: Range<usize>,
+    space: &mut [u8],
+    call: impl Fn(&[u8], &mut [u8]) -> WavReply,
+    runs: usize,
+    order: [usize; 2],
+) -> (f64, f64) {
+    let copy = |into: &mut [u8]| into[start..].copy_from_slice(black_box(&given[frames.clone()]));
+    let call = |into: &mut [u8]| call(black_box(given), into);
+    compare(name, start, space, copy, call);
+    let mut times = [0.0; 2];
+    for side in order {
+        times[side] = time(runs, || if side == 0 { copy(black_box(space)) } else { _ = black_box(call(black_box(space))) });
+    }
+    times.into()
 }
 
 /// Both leave the same from `start` on; times of two that differ would say nothing. It touches the whole space, so that no page of it is made while the clock runs.
