@@ -1,4 +1,7 @@
 //! How two are timed against each other.
+pub mod leaves;
+
+use std::hint::black_box;
 
 /// This thread's CPU time in nanoseconds, which other work on the machine does not count into.
 pub fn cpu_time() -> u64 {
@@ -14,6 +17,16 @@ pub fn cpu_time() -> u64 {
     let mut time = Timespec { seconds: 0, nanoseconds: 0 };
     unsafe { clock_gettime(CLOCK_THREAD_CPUTIME_ID, &mut time) };
     time.seconds as u64 * 1_000_000_000 + time.nanoseconds as u64
+}
+
+/// Nanoseconds between two looks at the clock with nothing in between.
+pub fn clock() -> f64 {
+    let look = || {
+        let start = cpu_time();
+        black_box(());
+        (cpu_time() - start) as f64
+    };
+    median((0..1001).map(|_| look()).collect())
 }
 
 /// Median times of the two, and the median of their quotients.

@@ -1,8 +1,7 @@
 //! Times of the proved amplifier against the unchanged Rust's, in one run.
-mod leaves;
 mod rust;
 
-use bench::{by_turns, cpu_time, noise};
+use bench::{by_turns, cpu_time, leaves, noise};
 use std::hint::black_box;
 
 const PERIOD: usize = 1024;
