@@ -1,6 +1,8 @@
 //! What is timed.
-use crate::sides::Side;
+use crate::sides::{FRAME, Side};
 use bench::noise;
+use port::layout::QUEUE;
+use random::Random;
 use std::hint::black_box;
 
 const DESCRIPTORS: usize = 0x1000;
@@ -8,16 +10,19 @@ const RING: usize = 0x4000;
 const COMMANDS: usize = 0x8000;
 const RESPONSES: usize = 0x9000;
 const PERIOD: usize = 1024;
-const FRAME: usize = 4;
 const TAG: u8 = 0x10;
+/// The format word of 48,000 frames a second, which a converter has after a reset too.
+const FORMAT: u16 = 0x0011;
 
 pub trait Operation {
     /// Calls that one run makes; more than one where a call is short.
     const TIMES: usize = 1;
+    /// Rounds that the medians are taken of.
+    const ROUNDS: usize = 15;
 
     fn set_up(&self, side: &mut impl Side);
-    /// What is done before each run and not timed.
-    fn prepare(&self, _: &mut impl Side) {}
+    /// What is done before each run and not timed. New frames are drawn from `random`, which gives Rust and port the same.
+    fn prepare(&self, _: &mut impl Side, _turn: usize, _random: &mut Random) {}
     /// One call; `turn` counts the calls on this side.
     fn run(&self, side: &mut impl Side, turn: usize) -> usize;
     /// Positions pending when a run starts, where that is what the operation is about.
@@ -39,7 +44,7 @@ fn verb(side: &mut impl Side, command: u32) {
 }
 
 /// A running stream over a ring of noise with flagged descriptors. 256 frames are due at each `period`.
-fn start(side: &mut impl Side, capture: bool, descriptors: usize, length: usize) {
+fn start(side: &mut impl Side, capture: bool, format: u16, descriptors: usize, length: usize) {
     for index in 0..descriptors {
         let descriptor = &mut side.memory()[DESCRIPTORS + 16 * index..][..16];
         descriptor[..8].copy_from_slice(&((RING + length * index) as u64).to_le_bytes());
@@ -51,7 +56,7 @@ fn start(side: &mut impl Side, capture: bool, descriptors: usize, length: usize)
     side.write(base + 0x02, &[TAG]);
     side.write(base + 0x08, &((descriptors * length) as u32).to_le_bytes());
     side.write(base + 0x0c, &[(descriptors - 1) as u8, 0]);
-    side.write(base + 0x12, &[0x11, 0]);
+    side.write(base + 0x12, &format.to_le_bytes());
     side.write(base + 0x18, &(DESCRIPTORS as u64).to_le_bytes());
     side.write(base, &[2]);
     // A part of a frame ahead, so that rounding to nanoseconds never takes a frame from a period.
@@ -63,10 +68,11 @@ fn period(side: &mut impl Side, turn: usize) {
     side.advance(5_333_333 + u64::from(turn % 3 == 2));
 }
 
-/// Connects the converter to the stream's tag, with one gain on both sides.
-fn connect(side: &mut impl Side, capture: bool, gain: u8) {
+/// Connects the converter to the stream's tag and format, with one gain on both sides.
+fn connect(side: &mut impl Side, capture: bool, format: u16, gain: u8) {
     let (node, amplifier) = if capture { (4, 0x3_7000) } else { (2, 0x3_b000) };
     verb(side, node << 20 | 0x7_0600 | u32::from(TAG));
+    verb(side, node << 20 | 0x2_0000 | u32::from(format));
     verb(side, node << 20 | amplifier | u32::from(gain));
 }
 
@@ -81,11 +87,11 @@ impl Operation for Period {
     fn set_up(&self, side: &mut impl Side) {
         wake(side);
         if let Some(gain) = self.gain {
-            connect(side, self.capture, gain);
+            connect(side, self.capture, FORMAT, gain);
         }
-        start(side, self.capture, 4, PERIOD);
+        start(side, self.capture, FORMAT, 4, PERIOD);
     }
-    fn prepare(&self, side: &mut impl Side) {
+    fn prepare(&self, side: &mut impl Side, _: usize, _: &mut Random) {
         if self.capture {
             side.feed(&noise::<PERIOD>());
         } else {
@@ -115,11 +121,11 @@ pub struct Pieces;
 impl Operation for Pieces {
     fn set_up(&self, side: &mut impl Side) {
         wake(side);
-        connect(side, false, 0x4a);
-        start(side, false, PERIOD / FRAME, FRAME);
+        connect(side, false, FORMAT, 0x4a);
+        start(side, false, FORMAT, PERIOD / FRAME, FRAME);
         fill(side, 14_336, 2);
     }
-    fn prepare(&self, side: &mut impl Side) {
+    fn prepare(&self, side: &mut impl Side, _: usize, _: &mut Random) {
         // One position less would be pending, and one frame less would fit into the queue.
         side.pull(&mut [0; PERIOD - FRAME]);
         side.advance(0);
@@ -143,16 +149,92 @@ pub struct Frames {
 impl Operation for Frames {
     fn set_up(&self, side: &mut impl Side) {
         wake(side);
-        connect(side, false, 0x4a);
-        start(side, false, 4 * self.pieces.min(64), PERIOD / self.pieces);
+        connect(side, false, FORMAT, 0x4a);
+        start(side, false, FORMAT, 4 * self.pieces.min(64), PERIOD / self.pieces);
     }
-    fn prepare(&self, side: &mut impl Side) {
+    fn prepare(&self, side: &mut impl Side, _: usize, _: &mut Random) {
         side.pull(&mut [0; 2 * PERIOD]);
     }
     fn run(&self, side: &mut impl Side, turn: usize) -> usize {
         let due = |turn: usize| (turn * self.frames) as u64 * 1_000_000_000 / 48_000;
         side.advance(due(turn + 1) - due(turn));
         0
+    }
+}
+
+/// A rate and the format word of 16-bit stereo at it.
+#[derive(Clone, Copy)]
+pub struct Rate {
+    pub frames: usize,
+    pub format: u16,
+}
+
+/// What a host does each millisecond: an advance and the pull of what was played, or the feed of what was recorded and an advance.
+pub struct Tick {
+    pub capture: bool,
+    pub rate: Rate,
+    /// None: not connected.
+    pub gain: Option<u8>,
+}
+
+impl Tick {
+    /// The ring that a Linux driver was seen with.
+    const DESCRIPTORS: usize = 4;
+    const LENGTH: usize = 4800;
+    const NANOSECONDS: u64 = 1_000_000;
+
+    /// Frames due before a turn: whole ones, so that rates that are no multiple of 1,000 have ticks of two lengths.
+    fn due(&self, turn: usize) -> usize {
+        turn * self.rate.frames / 1000
+    }
+
+    fn frames(&self, turn: usize) -> usize {
+        self.due(turn + 1) - self.due(turn)
+    }
+
+    /// A capture that is not connected leaves what was recorded in the queue, which then stays full.
+    fn full(&self) -> bool {
+        self.capture && self.gain.is_none()
+    }
+}
+
+impl Operation for Tick {
+    // A tick may be as short as a tenth of a microsecond, and a device makes one between two looks at the clock, since each has new frames.
+    const ROUNDS: usize = 101;
+
+    fn set_up(&self, side: &mut impl Side) {
+        wake(side);
+        if let Some(gain) = self.gain {
+            connect(side, self.capture, self.rate.format, gain);
+        }
+        start(side, self.capture, self.rate.format, Self::DESCRIPTORS, Self::LENGTH);
+        if self.full() {
+            side.feed(&noise::<QUEUE>());
+        }
+    }
+    /// The guest refills its ring, or the host records. Old frames would make a tick look fast: a processor learns which samples are negative.
+    fn prepare(&self, side: &mut impl Side, turn: usize, random: &mut Random) {
+        if self.capture {
+            random.fill(&mut side.buffer()[..FRAME * self.frames(turn)]);
+        } else {
+            for frame in self.due(turn)..self.due(turn + 1) {
+                let place = FRAME * frame % (Self::DESCRIPTORS * Self::LENGTH);
+                random.fill(&mut side.memory()[RING + place..][..FRAME]);
+            }
+        }
+    }
+    fn run(&self, side: &mut impl Side, turn: usize) -> usize {
+        let frames = self.frames(turn);
+        let moved = if self.capture {
+            let fed = side.feed_buffer(frames);
+            side.advance(Self::NANOSECONDS);
+            fed
+        } else {
+            side.advance(Self::NANOSECONDS);
+            side.pull_buffer(frames)
+        };
+        assert_eq!(moved, if self.full() { 0 } else { frames }, "a tick feeds or pulls what is due");
+        moved
     }
 }
 
@@ -267,7 +349,7 @@ pub struct Save {
 fn hold(side: &mut impl Side, pending: usize) {
     wake(side);
     if pending != 0 {
-        start(side, false, PERIOD / FRAME, FRAME);
+        start(side, false, FORMAT, PERIOD / FRAME, FRAME);
         fill(side, (FRAME * pending - PERIOD) as u32, 1);
     }
 }

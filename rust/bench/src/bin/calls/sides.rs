@@ -1,18 +1,9 @@
-//! The two devices behind the same calls, each with host end and guest memory.
+//! The calls that every device answers here, each with host end and guest memory; and the port behind them.
 use port::Machine;
-use port::layout::MAX_STATE;
-use reference::audio::{AudioClock, AudioFormat, CaptureSource, HostAudio, PlaybackSink};
-use reference::hda::Hda;
-use reference::{DeviceError, GuestMemory, MsiMessage, MsiSink, PciDevice, Snapshot};
-use std::collections::VecDeque;
-use std::hint::black_box;
-use std::sync::atomic::{AtomicUsize, Ordering::Relaxed};
-use std::sync::{Arc, Mutex, MutexGuard};
-use std::time::Duration;
-use vm_memory::{GuestAddress, GuestMemory as _};
+use port::layout::{MAX_STATE, QUEUE};
 
-const MEMORY: usize = 0x1_0000;
-const QUEUE: usize = 2048;
+pub const MEMORY: usize = 0x1_0000;
+pub const FRAME: usize = 4;
 
 pub trait Side {
     fn new() -> Self;
@@ -23,6 +14,12 @@ pub trait Side {
     fn config_write(&mut self, register: u64, offset: u64, bytes: &[u8]);
     fn feed(&mut self, frames: &[u8]);
     fn pull(&mut self, into: &mut [u8]);
+    /// The host's buffer: what it recorded or what it pulled last, as many bytes as a queue has.
+    fn buffer(&mut self) -> &mut [u8];
+    /// Feeds the first frames of the buffer, and says how many were taken.
+    fn feed_buffer(&mut self, frames: usize) -> usize;
+    /// Pulls into the start of the buffer, and says how many frames came.
+    fn pull_buffer(&mut self, frames: usize) -> usize;
     fn set_downstream(&mut self, bytes: u32);
     /// Saves as the side's caller would, and gives the length.
     fn save(&mut self) -> usize;
@@ -38,13 +35,14 @@ pub trait Side {
 pub struct Port {
     machine: Machine,
     memory: Vec<u8>,
+    buffer: Vec<u8>,
     state: Vec<u8>,
     kept: Vec<u8>,
 }
 
 impl Side for Port {
     fn new() -> Self {
-        Self { machine: Machine::new(true), memory: vec![0; MEMORY], state: vec![0; MAX_STATE], kept: Vec::new() }
+        Self { machine: Machine::new(true), memory: vec![0; MEMORY], buffer: vec![0; QUEUE], state: vec![0; MAX_STATE], kept: Vec::new() }
     }
     fn advance(&mut self, nanos: u64) {
         assert_eq!(self.machine.advance(&mut self.memory, nanos).number, 0);
@@ -67,6 +65,19 @@ impl Side for Port {
     fn pull(&mut self, into: &mut [u8]) {
         assert_eq!(self.machine.pull(into).number, 0);
     }
+    fn buffer(&mut self) -> &mut [u8] {
+        &mut self.buffer
+    }
+    fn feed_buffer(&mut self, frames: usize) -> usize {
+        let answer = self.machine.feed(&self.buffer[..FRAME * frames]);
+        assert_eq!(answer.number, 0);
+        answer.value as usize
+    }
+    fn pull_buffer(&mut self, frames: usize) -> usize {
+        let answer = self.machine.pull(&mut self.buffer[..FRAME * frames]);
+        assert_eq!(answer.number, 0);
+        answer.value as usize
+    }
     fn set_downstream(&mut self, bytes: u32) {
         assert_eq!(self.machine.set_downstream(bytes).number, 0);
     }
@@ -87,153 +98,5 @@ impl Side for Port {
     }
     fn queues(&self) -> [Vec<u8>; 2] {
         port::Stream::EACH.map(|stream| self.machine.queue(stream).to_vec())
-    }
-}
-
-/// Both host queues.
-#[derive(Default)]
-struct Host {
-    queues: [Mutex<VecDeque<u8>>; 2],
-    downstream: AtomicUsize,
-}
-
-impl Host {
-    fn queue(&self, index: usize) -> MutexGuard<'_, VecDeque<u8>> {
-        self.queues[index].lock().unwrap()
-    }
-
-    /// As many bytes as there are.
-    fn take(&self, index: usize, into: &mut [u8]) -> usize {
-        let mut queue = self.queue(index);
-        let count = into.len().min(queue.len());
-        let (front, back) = queue.as_slices();
-        let first = count.min(front.len());
-        into[..first].copy_from_slice(&front[..first]);
-        into[first..count].copy_from_slice(&back[..count - first]);
-        queue.drain(..count);
-        count
-    }
-}
-
-struct Stream(Arc<Host>);
-
-impl PlaybackSink for Stream {
-    fn write_period(&mut self, pcm: &[u8]) {
-        self.0.queue(1).extend(pcm);
-    }
-    fn latency_bytes(&self) -> usize {
-        self.queued_bytes() + self.0.downstream.load(Relaxed)
-    }
-    fn queued_bytes(&self) -> usize {
-        self.0.queue(1).len()
-    }
-}
-
-impl CaptureSource for Stream {
-    fn read_period(&mut self, out: &mut [u8]) {
-        let count = self.0.take(0, out);
-        out[count..].fill(0);
-    }
-    fn latency_bytes(&self) -> usize {
-        self.0.queue(0).len()
-    }
-}
-
-/// Each opening empties the queue.
-struct Opener(Arc<Host>);
-
-impl HostAudio for Opener {
-    fn name(&self) -> &'static str {
-        "bench"
-    }
-    fn open_playback(&self, _: AudioFormat) -> Result<Box<dyn PlaybackSink>, DeviceError> {
-        self.0.queue(1).clear();
-        Ok(Box::new(Stream(self.0.clone())))
-    }
-    fn open_capture(&self, _: AudioFormat) -> Result<Box<dyn CaptureSource>, DeviceError> {
-        self.0.queue(0).clear();
-        Ok(Box::new(Stream(self.0.clone())))
-    }
-}
-
-struct NoMessages;
-
-impl MsiSink for NoMessages {
-    fn signal(&self, _: MsiMessage) {}
-}
-
-pub struct Rust {
-    device: Hda,
-    host: Arc<Host>,
-    memory: GuestMemory,
-    kept: Vec<u8>,
-}
-
-/// The device as the hypervisor has it: behind traits.
-impl Rust {
-    fn bus(&mut self) -> &mut dyn PciDevice {
-        black_box(&mut self.device)
-    }
-    fn clock(&mut self) -> &mut dyn AudioClock {
-        black_box(&mut self.device)
-    }
-    fn snapshot(&self) -> &dyn Snapshot {
-        black_box(&self.device)
-    }
-}
-
-impl Side for Rust {
-    fn new() -> Self {
-        let memory = GuestMemory::from_ranges(&[(GuestAddress(0), MEMORY)]).unwrap();
-        let host = Arc::new(Host::default());
-        let device = Hda::new("hda", memory.clone(), Arc::new(Opener(host.clone())), Arc::new(NoMessages), None, true);
-        Self { device, host, memory, kept: Vec::new() }
-    }
-    fn advance(&mut self, nanos: u64) {
-        self.clock().advance(Duration::from_nanos(nanos)).unwrap();
-    }
-    fn read(&mut self, offset: u64, into: &mut [u8]) {
-        self.bus().bar_read(0, offset, into);
-    }
-    fn write(&mut self, offset: u64, bytes: &[u8]) {
-        self.bus().bar_write(0, offset, bytes);
-    }
-    fn config_read(&mut self, register: u64) -> u32 {
-        self.bus().config_read(register as usize)
-    }
-    fn config_write(&mut self, register: u64, offset: u64, bytes: &[u8]) {
-        self.bus().config_write(register as usize, offset, bytes);
-    }
-    fn feed(&mut self, frames: &[u8]) {
-        let mut queue = self.host.queue(0);
-        let room = QUEUE - queue.len();
-        queue.extend(&frames[..frames.len().min(room)]);
-    }
-    fn pull(&mut self, into: &mut [u8]) {
-        self.host.take(1, into);
-    }
-    fn set_downstream(&mut self, bytes: u32) {
-        self.host.downstream.store(bytes as usize, Relaxed);
-    }
-    fn save(&mut self) -> usize {
-        self.saved().len()
-    }
-    fn saved(&mut self) -> Vec<u8> {
-        self.snapshot().save_state().unwrap()
-    }
-    fn keep(&mut self) {
-        self.kept = self.saved();
-    }
-    fn restore(&mut self) {
-        let device: &mut dyn Snapshot = black_box(&mut self.device);
-        device.restore_state(&self.kept).unwrap();
-    }
-    fn memory(&mut self) -> &mut [u8] {
-        let start = self.memory.get_host_address(GuestAddress(0)).unwrap();
-        // The mapping lives as long as self.memory, and the device does not run while self is borrowed.
-        unsafe { std::slice::from_raw_parts_mut(start, MEMORY) }
-    }
-    fn queues(&self) -> [Vec<u8>; 2] {
-        [0, 1].map(|index| self.host.queue(index).iter().copied().collect())
     }
 }
