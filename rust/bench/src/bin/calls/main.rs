@@ -118,7 +118,7 @@ fn compare<R: Side, O: Operation>(name: &str, operation: &O) {
     let [mut for_rust, mut for_port] = [SEED; 2].map(Random::new);
     operation.set_up(&mut rust);
     operation.set_up(&mut port);
-    for turn in 0..24 {
+    for turn in 0..O::COMPARED {
         operation.prepare(&mut rust, turn, &mut for_rust);
         operation.prepare(&mut port, turn, &mut for_port);
         if let Some(pending) = operation.pending() {

@@ -17,6 +17,8 @@ const FORMAT: u16 = 0x0011;
 pub trait Operation {
     /// Calls that one run makes; more than one where a call is short.
     const TIMES: usize = 1;
+    /// Runs after which both sides are compared, before any is timed.
+    const COMPARED: usize = 24;
     /// Rounds that the medians are taken of.
     const ROUNDS: usize = 15;
 
@@ -199,6 +201,8 @@ impl Tick {
 }
 
 impl Operation for Tick {
+    // At every rate the ring comes round.
+    const COMPARED: usize = 128;
     // A tick may be as short as a tenth of a microsecond, and a device makes one between two looks at the clock, since each has new frames.
     const ROUNDS: usize = 101;
 
