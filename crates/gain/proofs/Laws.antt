@@ -106,14 +106,14 @@ low-byte w lo hi e h = omega arith
 high-byte : (w lo hi : ℕ) → w ≡ lo + 256 * hi → lo < 256 → w / 256 ≡ hi
 high-byte w lo hi e h = omega arith
 
-pub unity-bytes : (lo hi : ℕ) → lo < 256 → hi < 256 → scaled16 Unity (lo + 256 * hi) ≡ lo + 256 * hi
+pub unity-word : (w : ℕ) → w < 65536 → scaled16 Unity w ≡ w
 unfolding scaled16 scaled
-unity-bytes lo hi h k = bits-signed (lo + 256 * hi) (word-fits lo hi h k)
+unity-word w h = bits-signed w h
 
 pub sample-stays : (lo hi : ℕ) (xs : List ℕ) → lo < 256 → hi < 256 → scaled16 Unity (lo + 256 * hi) % 256 ∷ scaled16 Unity (lo + 256 * hi) / 256 ∷ xs ≡ lo ∷ hi ∷ xs
 sample-stays lo hi xs h k =
     let w = scaled16 Unity (lo + 256 * hi) in
-    let e = unity-bytes lo hi h k in
+    let e = unity-word (lo + 256 * hi) (word-fits lo hi h k) in
     ap (λ (x : ℕ). x ∷ w / 256 ∷ xs) (low-byte w lo hi e h) ∙ ap (λ (x : ℕ). lo ∷ x ∷ xs) (high-byte w lo hi e h)
 
 pub amplified-unity : (xs : List ℕ) → Bytes xs → amplifiedOf Unity Unity xs ≡ xs

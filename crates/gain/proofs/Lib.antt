@@ -11,4 +11,4 @@ pub mod Bound
 pub mod Words
 pub mod Rounding
 pub mod Scaling
-pub mod Sides
+pub mod Passes

@@ -1,16 +1,16 @@
--- What the private functions of src/lib.rt promise one another. Nothing public cites these definitions: `amplifiedOf` and `scaled` of
--- specs/Gain.antt are what the callers get.
-use Prim.Native.Nat.{ℕ, zero, suc, _+_, _-_, _*_, _/_, _%_, _<_, min}
+-- What the private functions of src/lib.rt promise one another. Nothing public cites these definitions: `amplifiedOf`, `onePassOf` and
+-- `scaled` of specs/Gain.antt are what the callers get.
+use Prim.Native.Nat.{ℕ, _+_, _-_, _*_, _/_, _%_, _≤_, _<_, min}
 use mathlib.Core.Path.{_≡_}
 use mathlib.Core.Bool.{Bool, true, false, cond, _&&_}
-use mathlib.Core.List.{List, _++_}
+use mathlib.Core.List.{List}
 use lib.Dec.{leb, ltb}
 use lib.IntN.{pos}
-use lib.ListN.{getD, set, take, drop}
+use lib.ListN.{length, getD, set}
 use lib.Ieee.{Float, nan, inf, fin, up, down, lt}
 use Rattle.gain.specs.declared.Gain.{Gain}
 use Rattle.gain.specs.declared.Gain.the-variants.{Silence, Unity, Factor}
-use Rattle.gain.specs.Gain.{amplifiedOf, scaled16}
+use Rattle.gain.specs.Gain.{scaled16, sampleAt, amplifiedByte}
 
 -- ---- one sample
 -- From 0 to 32768: what `round_half_up` takes.
@@ -31,32 +31,49 @@ magnitude16 w = cond (ltb w 32768) w (65535 - w + 1)
 abbrev pub withSign16 : ℕ → ℕ → ℕ
 withSign16 w r = cond (ltb w 32768) (min r 32767) ((65536 - r) % 65536)
 
--- ---- a buffer
+-- ---- a gain
 abbrev pub isSilence : Gain → Bool
 isSilence Silence = true
 isSilence Unity = false
 isSilence (Factor f) = false
 
+abbrev pub isUnity : Gain → Bool
+isUnity Silence = false
+isUnity Unity = true
+isUnity (Factor f) = false
+
 -- Above 0 and below 65536: the factors that `scale_word` is used with.
 abbrev pub blockwise : Float → Bool
 blockwise f = lt (fin false 0 (pos 0)) f && lt f (fin false 1 (pos 16))
 
--- One side: every other sample from the byte s on is scaled.
-abbrev pub oneSide : Gain → ℕ → List ℕ → List ℕ
-oneSide g s xs = take s xs ++ amplifiedOf g Unity (drop s xs)
+-- ---- a buffer, place by place
+-- The first n bytes of ys are amplified ones of xs; are 0. From n on ys is xs.
+abbrev pub amplifiedTo : ℕ → Gain → Gain → List ℕ → List ℕ → Type 0
+amplifiedTo n left right xs ys = (m : ℕ) → m < n → getD ys m 0 ≡ amplifiedByte left right xs m
 
--- The 16 bits at a place.
-abbrev pub sampleAt : List ℕ → ℕ → ℕ
-sampleAt xs i = getD xs i 0 + 256 * getD xs (i + 1) 0
+abbrev pub zerosTo : ℕ → List ℕ → Type 0
+zerosTo n ys = (m : ℕ) → m < n → getD ys m 0 ≡ 0
 
--- 64 samples of a side, from the byte `at` on: taken out, scaled, and put back.
-abbrev pub gathered : List ℕ → ℕ → List ℕ → Type 0
-gathered xs at ws = (k : ℕ) → k < 64 → getD ws k 0 ≡ sampleAt xs (at + 4 * k)
+abbrev pub sameFrom : ℕ → List ℕ → List ℕ → Type 0
+sameFrom n xs ys = (m : ℕ) → n ≤ m → getD ys m 0 ≡ getD xs m 0
 
-abbrev pub scaledWords : Float → List ℕ → List ℕ → Type 0
-scaledWords f vs ws = (k : ℕ) → k < 64 → getD ws k 0 ≡ scaled16 (Factor f) (getD vs k 0)
+-- n samples of a side, from the byte `at` on, taken out; and scaled.
+abbrev pub gathered : ℕ → List ℕ → ℕ → List ℕ → Type 0
+gathered n xs at ws = (k : ℕ) → k < n → getD ws k 0 ≡ sampleAt xs (at + 4 * k)
 
--- the first n of the words put back
-unfoldable pub scattered : ℕ → List ℕ → ℕ → List ℕ → List ℕ
-scattered zero ws at xs = xs
-scattered (suc n) ws at xs = set (set (scattered n ws at xs) (at + 4 * n) (getD ws n 0 % 256)) (at + 4 * n + 1) (getD ws n 0 / 256)
+abbrev pub scaledWords : ℕ → Gain → List ℕ → List ℕ → Type 0
+scaledWords n g vs ws = (k : ℕ) → k < n → getD ws k 0 ≡ scaled16 g (getD vs k 0)
+
+-- n frames, each of a left and a right word, put from the byte `at` on; the bytes before and behind them stay.
+abbrev pub frameAt : List ℕ → ℕ → ℕ → ℕ → Type 0
+frameAt ys at l r = (getD ys at 0 ≡ l % 256) × (getD ys (at + 1) 0 ≡ l / 256) × (getD ys (at + 2) 0 ≡ r % 256) × (getD ys (at + 3) 0 ≡ r / 256)
+
+abbrev pub scattered : ℕ → List ℕ → List ℕ → ℕ → List ℕ → List ℕ → Type 0
+scattered n ls rs at xs ys =
+    ((k : ℕ) → k < n → frameAt ys (at + 4 * k) (getD ls k 0) (getD rs k 0)) × ((m : ℕ) → m < at → getD ys m 0 ≡ getD xs m 0) × sameFrom (at + 4 * n) xs ys
+
+-- The sample at a place scaled, where two bytes stand there.
+abbrev pub sampleScaled : Gain → ℕ → List ℕ → List ℕ
+sampleScaled g at xs =
+    let w = scaled16 g (sampleAt xs at) in
+    cond (ltb (at + 1) (length xs)) (set (set xs at (w % 256)) (at + 1) (w / 256)) xs

@@ -1,11 +1,16 @@
 -- What the definitions of the calls give, by the tests that a call has made. Assumes nothing.
-use Prim.Native.Nat.{ℕ, _≤_, _<_}
+use Prim.Native.Nat.{ℕ, _-_, _≤_, _<_}
 use mathlib.Core.Path.{_≡_, ap, _∙_}
 use mathlib.Core.Bool.{Bool, cond, not}
-use mathlib.Core.List.{List}
+use mathlib.Core.List.{List, _++_}
+use native.Mathlib.Omega.{arith}
 use borrow.Author.Tests.{lt-ltb, le-ltb}
 use lib.Dec.{eqb}
-use lib.ListN.{length}
+use lib.ListN.{length, take, drop}
+use lib.Seq.{length-take-le}
+use Rattle.word.proofs.Lists.{copied-whole}
+use Rattle.gain.specs.Gain.{gainOf, amplifiedOf, onePassOf, twoStepsOf}
+use Rattle.gain.proofs.Laws.{amplified-length}
 use Rattle.clock.specs.Clock.{advanceOf}
 use Rattle.codec.specs.declared.Outcome.{Outcome}
 use Rattle.codec.specs.Codecs.{verbOf, connectedOf}
@@ -14,6 +19,9 @@ use Rattle.leaves.specs.Calls.{
   lentSpace,
   Call,
   callOf,
+  filledOf,
+  hdaAmplifyIntoOf,
+  hdaAmplifyThenCopyOf,
   clockIn,
   storeClock,
   hdaClockAdvanceOf,
@@ -23,6 +31,36 @@ use Rattle.leaves.specs.Calls.{
   hdaVerbOf,
   hdaConnectedOf,
 }
+
+module _ (pcm into : List ℕ) (left right : ℕ) where
+  pub into-short : length pcm < length into → filledOf lentSpace pcm into ≡ hdaAmplifyIntoOf pcm into left right
+  unfolding hdaAmplifyIntoOf
+  into-short h = rw (lt-ltb (length pcm) (length into) h)
+
+  pub into-passed : length into ≤ length pcm → filledOf 0 pcm (onePassOf (gainOf left) (gainOf right) pcm (length into)) ≡ hdaAmplifyIntoOf pcm into left right
+  unfolding hdaAmplifyIntoOf
+  into-passed h = rw (le-ltb (length pcm) (length into) h)
+
+  pub copy-short : length pcm < length into → filledOf lentSpace pcm into ≡ hdaAmplifyThenCopyOf pcm into left right
+  unfolding hdaAmplifyThenCopyOf
+  copy-short h = rw (lt-ltb (length pcm) (length into) h)
+
+  pub copied : length into ≤ length pcm
+      → filledOf 0 (amplifiedOf (gainOf left) (gainOf right) pcm) (twoStepsOf (gainOf left) (gainOf right) pcm (length into)) ≡ hdaAmplifyThenCopyOf pcm into left right
+  unfolding hdaAmplifyThenCopyOf
+  copied h = rw (le-ltb (length pcm) (length into) h)
+
+  -- the frames amplified, `s` of them lent and copied
+  pub then-copied : (pcm′ into′ : List ℕ) → length into ≤ length pcm → pcm′ ≡ amplifiedOf (gainOf left) (gainOf right) pcm
+      → (let s = take (length into - 0) pcm′ in into′ ≡ take (length s) s ++ drop (length s) into) → filledOf 0 pcm′ into′ ≡ hdaAmplifyThenCopyOf pcm into left right
+  unfolding twoStepsOf
+  then-copied pcm′ into′ h e c =
+      let whole : length into - 0 ≡ length into = omega arith in
+      let long : length (take (length into - 0) pcm′) ≡ length into - 0
+      = length-take-le (length into - 0) pcm′ (omega (arith, ap length e, amplified-length (gainOf left) (gainOf right) pcm)) in
+      ap (filledOf 0 pcm′) (copied-whole (take (length into - 0) pcm′) into into′ (omega (arith, long)) c ∙ ap (λ (n : ℕ). take n pcm′) whole)
+      ∙ ap (λ (l : List ℕ). filledOf 0 l (take (length into) l)) e
+      ∙ copied h
 
 module _ (l : List ℕ) (nanos : ℕ) where
   pub clock-short : length l < 16 → callOf lentSpace l ≡ hdaClockAdvanceOf l nanos

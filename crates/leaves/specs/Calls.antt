@@ -5,6 +5,7 @@ use mathlib.Core.List.{List}
 use lib.ListN.{length}
 use lib.Dec.{eqb, ltb}
 use Rattle.word.specs.Place.{wordAt, storeAt}
+use Rattle.gain.specs.Gain.{gainOf, amplifiedOf, onePassOf, twoStepsOf}
 use Rattle.clock.specs.declared.Clock.{Clock}
 use Rattle.clock.specs.Clock.{advanceOf}
 use Rattle.codec.specs.declared.Outcome.{Outcome}
@@ -24,6 +25,26 @@ pub record Call : Type 0 where
 
 abbrev pub callOf : ℕ → List ℕ → Call
 callOf number bytes = record { number = number; bytes = bytes }
+
+-- ---- frames amplified into other bytes
+-- what either form returns, and both buffers as it leaves them
+pub record Filled : Type 0 where
+  pub number : ℕ
+  pub pcm : List ℕ
+  pub into : List ℕ
+
+abbrev pub filledOf : ℕ → List ℕ → List ℕ → Filled
+filledOf number pcm into = record { number = number; pcm = pcm; into = into }
+
+-- `hda_amplify_into`, in one pass (T-03): the frames before gain stay
+unfoldable pub hdaAmplifyIntoOf : List ℕ → List ℕ → ℕ → ℕ → Filled
+hdaAmplifyIntoOf pcm into left right =
+    cond (ltb (length pcm) (length into)) (filledOf lentSpace pcm into) (filledOf 0 pcm (onePassOf (gainOf left) (gainOf right) pcm (length into)))
+
+-- `hda_amplify_then_copy`, in two steps: the frames are amplified where they stand, and copied
+unfoldable pub hdaAmplifyThenCopyOf : List ℕ → List ℕ → ℕ → ℕ → Filled
+hdaAmplifyThenCopyOf pcm into left right =
+    cond (ltb (length pcm) (length into)) (filledOf lentSpace pcm into) (filledOf 0 (amplifiedOf (gainOf left) (gainOf right) pcm) (twoStepsOf (gainOf left) (gainOf right) pcm (length into)))
 
 -- ---- the wall clock in 16 bytes: ticks, then fraction, as little-endian words (a saved state has the Rust's `wall_ticks` and `wall_fraction` so)
 abbrev pub clockIn : List ℕ → Clock

@@ -6,7 +6,7 @@ ghost use lib.ListN.{length};
 ghost use Rattle.format.specs.Format.{formatOf, rateOf};
 ghost use Rattle.gain.specs.Gain.{gainOf, amplifiedOf};
 ghost use Rattle.clock.specs.Frames.{accrueOf};
-ghost use Rattle.leaves.specs.Calls.{callOf, clockIn, storeClock, hdaClockAdvanceOf, repliedOf, verbCallOf, hdaVerbOf, hdaConnectedOf};
+ghost use Rattle.leaves.specs.Calls.{callOf, filledOf, hdaAmplifyIntoOf, hdaAmplifyThenCopyOf, clockIn, storeClock, hdaClockAdvanceOf, repliedOf, verbCallOf, hdaVerbOf, hdaConnectedOf};
 use clock::Clock;
 use codec::Codec;
 use codec::Reply;
@@ -33,6 +33,32 @@ pub extern "C" fn hda_amplify(pcm: &mut [u8], left: u8, right: u8)
     ensures { λ _. ⌜ now (pcm .exit) ≡ amplifiedOf (gainOf left) (gainOf right) (now (pcm .entry)) ⌝ }
 {
     gain::amplify_by(pcm, left, right);
+}
+
+// The same into other bytes, as many as these are, in one pass: what a playback's transfer queues. Returns 0.
+#[no_mangle]
+pub extern "C" fn hda_amplify_into(pcm: &[u8], into: &mut [u8], left: u8, right: u8) -> u32
+    ensures { λ r. ⌜ filledOf r (now (pcm .entry)) (now (into .exit)) ≡ hdaAmplifyIntoOf (now (pcm .entry)) (now (into .entry)) left right ⌝ }
+{
+    if pcm.len() < into.len() {
+        return LENT_SPACE;
+    }
+    gain::amplify_into_by(pcm, into, left, right);
+    0
+}
+
+// The same in two steps, for comparison: the frames are amplified where they stand, and then copied. Returns 0.
+#[no_mangle]
+pub extern "C" fn hda_amplify_then_copy(pcm: &mut [u8], into: &mut [u8], left: u8, right: u8) -> u32
+    ensures { λ r. ⌜ filledOf r (now (pcm .exit)) (now (into .exit)) ≡ hdaAmplifyThenCopyOf (now (pcm .entry)) (now (into .entry)) left right ⌝ }
+{
+    let n = into.len();
+    if pcm.len() < n {
+        return LENT_SPACE;
+    }
+    gain::amplify_by(pcm, left, right);
+    bytes::copy(&pcm[0..n], into);
+    0
 }
 
 fn load_clock(bytes: &[u8]) -> Clock

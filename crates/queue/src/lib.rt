@@ -3,7 +3,7 @@ use stream::Stream;
 ghost use mathlib.Core.Path.{_≡_};
 ghost use Prim.Native.Nat.{_≤_};
 ghost use lib.ListN.{length};
-ghost use Rattle.queue.specs.Queues.{capacity, validQueue, latencyOf, fittingOf, movedOf, putOf, takenOf, takeIntoOf};
+ghost use Rattle.queue.specs.Queues.{capacity, validQueue, latencyOf, fittingOf, reserveOf, movedOf, putOf, takenOf, takeIntoOf};
 
 // One stream's queue: whether the stream is open, and how many bytes are queued.
 pub struct Queue {
@@ -11,7 +11,7 @@ pub struct Queue {
     pub length: u32,
 }
 
-// What a queue's put and take answer: the bytes moved, and the queue.
+// What a queue's reserve, put and take answer: the bytes moved, and the queue.
 pub struct QueueMoved {
     pub count: u32,
     pub queue: Queue,
@@ -55,16 +55,12 @@ impl Queue {
         }
     }
 
-    // Bytes go behind those queued, as many as fit.
-    pub fn put(self, part: &mut [u8], bytes: &[u8]) -> QueueMoved
-        requires { ⌜ (self .length ≤ capacity) × (capacity ≤ length (now part)) ⌝ }
-        ensures { λ r. ⌜ movedOf (r .count) (r .queue) (now (part .exit)) ≡ putOf self (now (part .entry)) (now (bytes .entry)) (length (now (bytes .entry))) ⌝ }
+    // Room for n bytes behind those queued, as many as fit: how many these are, and the queue with them. The caller writes them.
+    pub fn reserve(self, n: usize) -> QueueMoved
+        requires { ⌜ self .length ≤ capacity ⌝ }
+        ensures { λ r. ⌜ r ≡ reserveOf self n ⌝ }
     {
-        let count = self.fitting(bytes.len());
-        let n = count as usize;
-        let at = self.length as usize;
-        let end = at + n;
-        bytes::copy(&bytes[0..n], &mut part[at..end]);
+        let count = self.fitting(n);
         QueueMoved {
             count,
             queue: Queue {
@@ -72,6 +68,19 @@ impl Queue {
                 length: self.length + count,
             },
         }
+    }
+
+    // Bytes go behind those queued, as many as fit.
+    pub fn put(self, part: &mut [u8], bytes: &[u8]) -> QueueMoved
+        requires { ⌜ (self .length ≤ capacity) × (capacity ≤ length (now part)) ⌝ }
+        ensures { λ r. ⌜ movedOf (r .count) (r .queue) (now (part .exit)) ≡ putOf self (now (part .entry)) (now (bytes .entry)) (length (now (bytes .entry))) ⌝ }
+    {
+        let moved = self.reserve(bytes.len());
+        let n = moved.count as usize;
+        let at = self.length as usize;
+        let end = at + n;
+        bytes::copy(&bytes[0..n], &mut part[at..end]);
+        moved
     }
 
     // Bytes leave the front for the start of a buffer, as many as it holds or as there are; the others move down.

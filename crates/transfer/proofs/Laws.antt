@@ -1,21 +1,25 @@
 -- Silence, and the outcome of each function from what its tests and calls leave. Assumes nothing.
-use Prim.Native.Nat.{ℕ, zero, suc, _-_, _%_, _≤_, _<_}
+use Prim.Native.Nat.{ℕ, zero, suc, _+_, _-_, _%_, _≤_, _<_}
 use mathlib.Core.Path.{_≡_, refl, sym, ap, _∙_, subst}
 use mathlib.Core.Bool.{Bool, true, false, cond, not, true≢false, _&&_, and-true, and-false}
 use mathlib.Core.List.{List, _∷_, _++_}
 use native.Mathlib.Omega.{arith}
 use borrow.Author.Tests.{eqb-false}
 use lib.Dec.{leb, eqb}
-use lib.ListN.{length, take, drop, length-replicate}
-use Rattle.word.proofs.Choices.{if-true, cond-map}
+use lib.ListN.{length, take, drop, length-replicate, length-drop}
+use lib.Seq.{length-take-le}
+use Rattle.word.specs.Place.{putAt}
+use Rattle.word.proofs.Put.{put-lent}
+use Rattle.word.proofs.Choices.{by-cond, if-true, cond-map}
 use Rattle.gain.specs.Gain.{gainOf, amplifiedOf}
+use Rattle.gain.proofs.Laws.{amplified-length}
 use Rattle.stream.specs.declared.Stream.{Stream}
 use Rattle.stream.specs.declared.Cyclic.{Cyclic}
 use Rattle.stream.specs.Streams.{period}
 use Rattle.plan.specs.Plans.{readyOf}
 use Rattle.pieces.specs.Pieces.{Out, stateOf, piecesOf}
 use Rattle.queue.specs.declared.Queue.{Queue}
-use Rattle.queue.specs.Queues.{Moved, Taken, putOf, takeOf, takeIntoOf}
+use Rattle.queue.specs.Queues.{Moved, Taken, queue, fittingOf, putOf, takeOf, takeIntoOf}
 use Rattle.transfer.specs.Transfers.{Transfer, transferOut, withPieces, silence, takenOf, capturedOf, captureOf, heardOf, queuedOf, Queued, queuedIn, queuedBy, playbackOf, framesMoved, transferOf}
 
 pub take-silence : (n k : ℕ) → n ≤ k → take n (silence k) ≡ silence n
@@ -87,17 +91,31 @@ unfolding takeOf
 taken-few true q part count n h = omega (arith, h)
 taken-few false q part count n h = h
 
--- what `queued` leaves: nothing queued, or the samples heard
+-- what is heard is as long as the samples
+heard-length : (connected : Bool) (left right : ℕ) (pcm : List ℕ) → length (heardOf connected left right pcm (length pcm)) ≡ length pcm
+heard-length connected left right pcm =
+    by-cond (λ (b : List ℕ). length b ≡ length pcm) connected (amplifiedOf (gainOf left) (gainOf right) pcm) (silence (length pcm)) (λ _. amplified-length (gainOf left) (gainOf right) pcm)
+    (λ _. length-silence (length pcm))
+
+-- what `queued` leaves: nothing queued, or as much of what is heard as fits; `count`, `j` and `into` are its count, the length of its place and the place, as the code computes them
 module _ (plays : Bool) (q : Queue) (connected : Bool) (left right : ℕ) (part pcm : List ℕ) where
   pub queued-none : plays ≡ false → queuedIn q part pcm ≡ queuedBy plays q connected left right part pcm
   queued-none e = rw e
 
-  pub queued-put : (heard : List ℕ) (p : Moved) → plays ≡ true → heard ≡ heardOf connected left right pcm (length pcm) → length heard ≡ length pcm → p ≡ putOf q part heard (length heard)
-      → queuedIn (p .queue) (p .part) heard ≡ queuedBy plays q connected left right part pcm
-  queued-put heard p e eh el ep =
-      let own : p ≡ putOf q part heard (length pcm) = ep ∙ ap (putOf q part heard) el in
-      ap (λ (x : Moved). queuedIn (x .queue) (x .part) heard) own
-      ∙ ap (λ (h : List ℕ). let put = putOf q part h (length pcm) in queuedIn (put .queue) (put .part) h) eh
+  pub queued-put : (q′ : Queue) (count j : ℕ) (into : List ℕ) → plays ≡ true → count ≡ fittingOf q (length pcm) → q′ ≡ queue (q .live) (q .length + count) → j ≡ count
+      → q .length + count ≤ length part → count ≤ length pcm → into ≡ take (length (take j (drop (q .length) part))) (heardOf connected left right pcm (length pcm))
+      → queuedIn q′ (take (q .length) part ++ (into ++ drop j (drop (q .length) part))) pcm ≡ queuedBy plays q connected left right part pcm
+  unfolding putOf
+  queued-put q′ count j into e ec eq ej room fits is =
+      let heard = heardOf connected left right pcm (length pcm) in
+      let rest : List ℕ = drop (q .length) part in
+      let own : length (take j rest) ≡ count = ap (λ (k : ℕ). length (take k rest)) ej ∙ length-take-le count rest (omega (arith, length-drop (q .length) part)) in
+      let front : into ≡ take count heard = is ∙ ap (λ (k : ℕ). take k heard) own in
+      let long : length into ≡ j = ap length front ∙ length-take-le count heard (omega (arith, heard-length connected left right pcm)) ∙ sym ej in
+      let there = put-lent (q .length) j into part long ∙ ap (λ (l : List ℕ). putAt (q .length) l part) front in
+      ap (λ (l : List ℕ). queuedIn q′ l pcm) there
+      ∙ ap (λ (x : Queue). queuedIn x (putAt (q .length) (take count heard) part) pcm) eq
+      ∙ ap (λ (n : ℕ). queuedIn (queue (q .live) (q .length + n)) (putAt (q .length) (take n heard) part) pcm) ec
       ∙ if-true _ (queuedIn q part pcm) e refl
 
 module _ (g : Cyclic) (s : Stream) (q : Queue) (connected : Bool) (left right : ℕ) (l part m : List ℕ) (count : ℕ) where
@@ -125,7 +143,7 @@ module _ (g : Cyclic) (s : Stream) (q : Queue) (connected : Bool) (left right : 
         let put = sized (length last) in
         from-pieces (withPieces o q″ part″)
         (ap (λ (x : Queued). withPieces o (x .queue) (x .part)) e
-        ∙ cond-map (λ (x : Queued). withPieces o (x .queue) (x .part)) (o .ok) (queuedIn (put .queue) (put .part) (heardOf connected left right last (length last))) (queuedIn q part last)
+        ∙ cond-map (λ (x : Queued). withPieces o (x .queue) (x .part)) (o .ok) (queuedIn (put .queue) (put .part) last) (queuedIn q part last)
         ∙ ap (λ (n : ℕ). queuedOf o (sized n) q part) whole)
 
   -- a capture's samples before the pieces, a playback's queue after them

@@ -55,7 +55,7 @@ heardOf connected left right pcm count = cond connected (amplifiedOf (gainOf lef
 abbrev pub queuedOf : Out → Moved → Queue → List ℕ → Transfer
 queuedOf o put q part = cond (o .ok) (withPieces o (put .queue) (put .part)) (withPieces o q part)
 
--- the queue, its part and the samples, where a stream plays and no piece failed, and else
+-- The queue, its part and the samples, where a stream plays and no piece failed, and else. The samples, which are those before gain, stay (T-03).
 pub record Queued : Type 0 where
   pub queue : Queue
   pub part : List ℕ
@@ -66,9 +66,8 @@ queuedIn q part pcm = record { queue = q; part = part; pcm = pcm }
 
 abbrev pub queuedBy : Bool → Queue → Bool → ℕ → ℕ → List ℕ → List ℕ → Queued
 queuedBy plays q connected left right part pcm =
-    let heard = heardOf connected left right pcm (length pcm) in
-    let put = putOf q part heard (length pcm) in
-    cond plays (queuedIn (put .queue) (put .part) heard) (queuedIn q part pcm)
+    let put = putOf q part (heardOf connected left right pcm (length pcm)) (length pcm) in
+    cond plays (queuedIn (put .queue) (put .part) pcm) (queuedIn q part pcm)
 
 unfoldable pub playbackOf : Cyclic → Stream → Queue → Bool → ℕ → ℕ → List ℕ → List ℕ → List ℕ → ℕ → Transfer
 playbackOf g s q connected left right l part m count =

@@ -4,7 +4,7 @@ use stream::Cyclic;
 use stream::Stream;
 ghost use mathlib.Core.Path.{_≡_};
 ghost use Prim.Native.Nat.{_<_, _≤_};
-ghost use lib.ListN.{length};
+ghost use lib.ListN.{length, take};
 ghost use Rattle.queue.specs.Queues.{capacity};
 ghost use Rattle.transfer.specs.Transfers.{leftOf, silence, takenOf, capturedOf, heardOf, queuedIn, queuedBy, framesMoved, transferOf, TransferNeeds};
 
@@ -49,18 +49,20 @@ fn captured(
     taken.queue
 }
 
-// What a playback's samples sound like: amplified, or silence where the stream is not connected.
-fn heard(connected: bool, left: u8, right: u8, pcm: &mut [u8])
-    ensures { λ _. ⌜ now (pcm .exit) ≡ heardOf connected left right (now (pcm .entry)) (length (now (pcm .entry))) ⌝ }
+// What a playback's samples sound like, as many bytes as `into` holds: amplified on their way there, or silence where the stream is not connected.
+fn heard(connected: bool, left: u8, right: u8, pcm: &[u8], into: &mut [u8])
+    requires { ⌜ length (now into) ≤ length (now pcm) ⌝ }
+    ensures { λ _. ⌜ now (into .exit) ≡ take (length (now (into .entry))) (heardOf connected left right (now (pcm .entry)) (length (now (pcm .entry)))) ⌝ }
 {
     if connected {
-        gain::amplify_by(pcm, left, right);
+        gain::amplify_into_by(pcm, into, left, right);
     } else {
-        clear(pcm);
+        clear(into);
     }
 }
 
-// A playback's samples behind those queued, and the queue that is left. A capture and a transfer that failed queue nothing.
+// A playback's samples behind those queued, in one pass, and the queue that is left. A capture and a transfer that failed queue nothing. The samples stay:
+// they are lent as those who fill them have them, so that the promise can say it.
 fn queued(
     plays: bool,
     q: Queue,
@@ -76,9 +78,11 @@ fn queued(
     if !plays {
         return q;
     }
-    heard(connected, left, right, pcm);
-    let put = q.put(part, pcm);
-    put.queue
+    let reserved = q.reserve(pcm.len());
+    let at = q.length as usize;
+    let end = at + (reserved.count as usize);
+    heard(connected, left, right, pcm, &mut part[at..end]);
+    reserved.queue
 }
 
 // A transfer of `count` bytes that is ready: a capture's samples first, then the pieces, which move them between `pcm` and guest memory, then a playback's queue, which takes what

@@ -9,7 +9,7 @@ unsafe extern "C" {
 
 /// What a call gives that is done, and one whose target is longer than its source.
 pub const DONE: u32 = 0;
-pub const SHORT: u32 = 14;
+pub const SHORT: u32 = 10;
 
 /// Amplifies in place.
 #[inline]

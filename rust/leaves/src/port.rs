@@ -4,6 +4,7 @@ use crate::question::{Answer, CodecBytes, Question, Side};
 unsafe extern "C" {
     fn hda_format(word: u16) -> u32;
     fn hda_amplify(pcm: *mut u8, length: usize, left: u8, right: u8);
+    fn hda_amplify_into(pcm: *const u8, length: usize, into: *mut u8, into_length: usize, left: u8, right: u8) -> u32;
     fn hda_verb(codec: *mut u8, codec_length: usize, command: u32, reply: *mut u8, reply_length: usize) -> u32;
     fn hda_connected(codec: *const u8, length: usize, input: u8, tag: u8, format: u16) -> u32;
     fn hda_clock_advance(clock: *mut u8, length: usize, nanos: u64) -> u32;
@@ -17,7 +18,8 @@ impl Side for Port {
     fn answer(&mut self, question: &Question) -> Answer {
         match question {
             Question::Format { word } => Answer::Rate(unsafe { hda_format(*word) }),
-            Question::Amplify { left, right, pcm, .. } => amplify(pcm.clone(), *left, *right),
+            Question::Amplify { input: true, left, right, pcm } => amplify(pcm.clone(), *left, *right),
+            Question::Amplify { input: false, left, right, pcm } => amplify_into(pcm, *left, *right),
             Question::Verb { codec, command } => verb(*codec, *command),
             Question::Clock { ticks, fraction, nanos } => clock(*ticks, *fraction, *nanos),
             Question::Time { fraction, nanos, rate } => Answer::Time(unsafe { hda_accrue(*fraction, *nanos, *rate) }),
@@ -26,9 +28,19 @@ impl Side for Port {
     }
 }
 
+/// In place, as a capture is amplified.
 fn amplify(mut pcm: Vec<u8>, left: u8, right: u8) -> Answer {
     unsafe { hda_amplify(pcm.as_mut_ptr(), pcm.len(), left, right) };
     Answer::Pcm(pcm)
+}
+
+/// Into another buffer in one pass, as a playback is. The frames before gain stay.
+fn amplify_into(pcm: &[u8], left: u8, right: u8) -> Answer {
+    let before = pcm.to_vec();
+    let mut into = vec![0xa5; pcm.len()];
+    let number = unsafe { hda_amplify_into(pcm.as_ptr(), pcm.len(), into.as_mut_ptr(), into.len(), left, right) };
+    assert!(pcm == before, "the pass changed the frames before gain");
+    if number == 0 { Answer::Pcm(into) } else { Answer::Refused(number) }
 }
 
 fn verb(mut codec: CodecBytes, command: u32) -> Answer {

@@ -1,24 +1,28 @@
--- `gather` meets its contract. The first k words are taken. Assumes nothing.
-use mathlib.Core.Path.{_≡_, refl}
-use Prim.Native.Nat.{ℕ, _+_, _-_, _*_, _≤_, _<_, zero-le}
+-- `gather` meets its contract. The first k words of each side are taken. Assumes nothing.
+use mathlib.Core.Path.{_≡_, refl, _∙_}
+use Prim.Native.Nat.{_+_, _-_, _*_, _≤_, zero-le}
 use native.Mathlib.Nat.{not-suc-le-zero}
 use native.Mathlib.Omega.{arith}
-use lib.ListN.{length, getD, length-set}
+use lib.ListN.{length, length-set}
 use denote.Ref.{now}
 use borrow.Author.Needs.{needs}
-use Rattle.gain.specs.Fast.{sampleAt}
-use Rattle.gain.proofs.Sides.{filled}
+use Rattle.gain.specs.Gain.{sampleAt}
+use Rattle.gain.specs.Fast.{gathered}
+use Rattle.gain.proofs.Passes.{filled, right-sample}
 use Rattle.gain.proofs.gather.Statement.{statement}
 use Rattle.gain.proofs.gather.Tie as tie
 
 abbrev Inv-loop : tie.InvT-loop
-Inv-loop pcm at words₀ k₀ words k = (length words ≡ length words₀) × (k ≤ 64) × ((n : ℕ) → n < k → getD words n 0 ≡ sampleAt pcm (at + 4 * n)) × (64 ≤ length words₀)
+Inv-loop pcm at lefts₀ rights₀ n k₀ lefts rights k =
+    (length lefts ≡ length lefts₀) × (length rights ≡ length rights₀) × (k ≤ n) × gathered k pcm at lefts × gathered k pcm (at + 2) rights × (n ≤ length lefts₀) × (n ≤ length rights₀) × (at + 4 * n ≤ length pcm)
 
 abbrev μ-loop : tie.MeasureT-loop
-μ-loop pcm at words₀ k₀ words k = 64 - k
+μ-loop pcm at lefts₀ rights₀ n k₀ lefts rights k = n - k
 
 loop-holds : tie.Need-loop-holds Inv-loop μ-loop
-loop-holds c = (refl, zero-le, (λ n h. absurd (not-suc-le-zero h)), c .before .before .pre .0)
+loop-holds c =
+    let start : tie.Start Inv-loop μ-loop = search in
+    let p = start .pre in (refl, refl, zero-le, (λ m h. absurd (not-suc-le-zero h)), (λ m h. absurd (not-suc-le-zero h)), p .0, p .1, p .2)
 
 mul-i : tie.Need-mul-i Inv-loop μ-loop
 mul-i c = search needs
@@ -38,11 +42,32 @@ shared-slice-read-word-of-2 c = search needs
 word-of-requires : tie.Need-word-of-requires Inv-loop μ-loop
 word-of-requires c κs = search needs
 
-mul-words : tie.Need-mul-words Inv-loop μ-loop
-mul-words c = search needs
+mul-lefts : tie.Need-mul-lefts Inv-loop μ-loop
+mul-lefts c = search needs
 
-slice-write-words : tie.Need-slice-write-words Inv-loop μ-loop
-slice-write-words c = search needs
+slice-write-lefts : tie.Need-slice-write-lefts Inv-loop μ-loop
+slice-write-lefts c = search needs
+
+add-word-of-2 : tie.Need-add-word-of-2 Inv-loop μ-loop
+add-word-of-2 c = search needs
+
+shared-slice-read-word-of-3 : tie.Need-shared-slice-read-word-of-3 Inv-loop μ-loop
+shared-slice-read-word-of-3 c = search needs
+
+add-word-of-3 : tie.Need-add-word-of-3 Inv-loop μ-loop
+add-word-of-3 c = search needs
+
+shared-slice-read-word-of-4 : tie.Need-shared-slice-read-word-of-4 Inv-loop μ-loop
+shared-slice-read-word-of-4 c = search needs
+
+word-of-requires-2 : tie.Need-word-of-requires-2 Inv-loop μ-loop
+word-of-requires-2 c κs = search needs
+
+mul-rights : tie.Need-mul-rights Inv-loop μ-loop
+mul-rights c = search needs
+
+slice-write-rights : tie.Need-slice-write-rights Inv-loop μ-loop
+slice-write-rights c = search needs
 
 add-k : tie.Need-add-k Inv-loop μ-loop
 add-k c = search needs
@@ -52,19 +77,32 @@ loop-less c = search needs
 
 loop-again : tie.Need-loop-again Inv-loop μ-loop
 loop-again c =
-    let l = c .before .before .before .before .loop in
-    let s = c .before .before .before .before .before .before .before in (
+    let after-word-of : tie.After-word-of Inv-loop μ-loop = search in
+    let at-loop : tie.At-loop Inv-loop μ-loop = search in
+    let start : tie.Start Inv-loop μ-loop = search in
+    let l = at-loop .loop in
+    let a = start .args in
+    let xs = now (a .pcm) in (
       simp length-set (l .inv .0),
+      simp length-set (l .inv .1),
       omega arith,
-      filled (l .words) (l .k) (c .word-of .result) (λ n. sampleAt (now (s .args .pcm)) (s .args .at + 4 * n)) (omega arith) (l .inv .2) (c .word-of .ensures),
-      l .inv .3,
+      filled (l .lefts) (l .k) (after-word-of .word-of .result) (λ m. sampleAt xs (a .at + 4 * m)) (omega arith) (l .inv .3) (after-word-of .word-of .ensures),
+      filled (l .rights) (l .k) (c .word-of2 .result) (λ m. sampleAt xs (a .at + 2 + 4 * m)) (omega arith) (l .inv .4) (c .word-of2 .ensures ∙ right-sample xs (a .at) (l .k)),
+      l .inv .5,
+      l .inv .6,
+      l .inv .7,
     )
 
 same-length : tie.Need-same-length Inv-loop μ-loop
 same-length c = search needs
 
+same-length-2 : tie.Need-same-length-2 Inv-loop μ-loop
+same-length-2 c = search needs
+
 returns : tie.Need-returns Inv-loop μ-loop
-returns c = λ k h. c .before .loop .inv .2 k (omega arith)
+returns c =
+    let at-loop : tie.At-loop Inv-loop μ-loop = search in
+    let l = at-loop .loop in ((λ k h. l .inv .3 k (omega arith)), (λ k h. l .inv .4 k (omega arith)))
 
 pub gather-spec : {M : Type 1} → statement M
 gather-spec =
@@ -79,10 +117,18 @@ gather-spec =
     add-word-of
     shared-slice-read-word-of-2
     word-of-requires
-    mul-words
-    slice-write-words
+    mul-lefts
+    slice-write-lefts
+    add-word-of-2
+    shared-slice-read-word-of-3
+    add-word-of-3
+    shared-slice-read-word-of-4
+    word-of-requires-2
+    mul-rights
+    slice-write-rights
     add-k
     loop-less
     loop-again
     same-length
+    same-length-2
     returns)
