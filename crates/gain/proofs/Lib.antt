@@ -1,5 +1,5 @@
--- The laws and theorems. Theorems: `nearest` of Doubles, `within`, `clamped` and `exact-within` of Bound. Laws for those who
--- call `amplify`: Laws. The other files serve these or the functions' proofs.
+-- The laws and theorems. Theorems: `nearest` of Doubles, `within`, `clamped` and `exact-within` of Bound, `one-pass-is-two-steps` of Passes.
+-- Laws for those who call `amplify`: Laws. The other files serve these or the functions' proofs.
 pub mod Table
 pub mod Twentieth
 pub mod Entries

@@ -16,7 +16,7 @@ use Rattle.word.proofs.Choices.{by-test}
 use Rattle.gain.specs.declared.Gain.{Gain}
 use Rattle.gain.specs.declared.Gain.the-variants.{Silence, Unity, Factor}
 use Rattle.gain.specs.Gain.{scaled, scaled16, amplifiedOf, twoStepsOf, sampleAt, sideAt, halfOf, amplifiedByte, passFrom, onePassOf}
-use Rattle.gain.specs.Fast.{isSilence, isUnity, amplifiedTo, zerosTo, sameFrom, gathered, scaledWords, frameAt, scattered, sampleScaled}
+use Rattle.gain.specs.Fast.{isSilence, isUnity, amplifiedTo, zerosTo, sameFrom, scaledSide, frameAt, scattered, sampleScaled}
 use Rattle.gain.proofs.Laws.{amplified-length, amplified-unity}
 
 -- ---- one byte
@@ -217,9 +217,9 @@ one-more n ls rs at xs ys k s = (
           away (at + 4 * j + 3) (λ e. omega arith) (λ e. omega arith) (λ e. omega arith) (λ e. omega arith) ∙ f .3,
         )
 
--- ---- a block: both sides' words, taken out of xs and scaled, put behind what is amplified already
-module _ (g h : Gain) (n i : ℕ) (xs vs ws vs′ ws′ ys zs : List ℕ) (aligned : i % 4 ≡ 0) (source : i + 4 * n ≤ length xs) (gl : gathered n xs i vs) (gr : gathered n xs (i + 2) ws)
-    (sl : scaledWords n g vs vs′) (sr : scaledWords n h ws ws′) (put : scattered n vs′ ws′ i ys zs) where
+-- ---- a block: both sides' samples of xs, scaled, put behind what is amplified already
+module _ (g h : Gain) (n i : ℕ) (xs vs ws ys zs : List ℕ) (aligned : i % 4 ≡ 0) (source : i + 4 * n ≤ length xs) (left : scaledSide n g xs i vs) (right : scaledSide n h xs (i + 2) ws)
+    (put : scattered n vs ws i ys zs) where
   abbrev At : ℕ → Type 0
   At m = getD zs m 0 ≡ amplifiedByte g h xs m
 
@@ -227,9 +227,9 @@ module _ (g h : Gain) (n i : ℕ) (xs vs ws vs′ ws′ ys zs : List ℕ) (align
   frame-done k l =
       let f = put .0 k l in
       let b = frame g h xs (i + 4 * k) (omega arith) (omega arith) in
-      let v : getD vs′ k 0 ≡ scaled16 g (sampleAt xs (i + 4 * k)) = sl k l ∙ ap (scaled16 g) (gl k l) in
       let side : i + 2 + 4 * k ≡ i + 4 * k + 2 = omega arith in
-      let w : getD ws′ k 0 ≡ scaled16 h (sampleAt xs (i + 4 * k + 2)) = sr k l ∙ ap (scaled16 h) (gr k l) ∙ ap (λ (p : ℕ). scaled16 h (sampleAt xs p)) side in (
+      let v = left k l in
+      let w : getD ws k 0 ≡ scaled16 h (sampleAt xs (i + 4 * k + 2)) = right k l ∙ ap (λ (p : ℕ). scaled16 h (sampleAt xs p)) side in (
         f .0 ∙ ap (λ (x : ℕ). x % 256) v ∙ sym (b .0),
         f .1 ∙ ap (λ (x : ℕ). x / 256) v ∙ sym (b .1),
         f .2 ∙ ap (λ (x : ℕ). x % 256) w ∙ sym (b .2),
@@ -251,10 +251,10 @@ module _ (g h : Gain) (n i : ℕ) (xs vs ws vs′ ws′ ys zs : List ℕ) (align
   pub block-done : amplifiedTo i g h xs ys → amplifiedTo (i + 4 * n) g h xs zs
   block-done a m l = by-test (ltb m i) (λ t. let u = ltb-true m i t in put .1 m u ∙ a m u) (λ t. inside-at m (ltb-false m i t) l)
 
--- in place: what is gathered is what stood there at first, where nothing from there on has changed
-pub same-gathered : (n : ℕ) (xs ys : List ℕ) (i at : ℕ) (ws : List ℕ) → i ≤ at → sameFrom i xs ys → gathered n ys at ws → gathered n xs at ws
-same-gathered n xs ys i at ws h s g k l =
-    g k l ∙ ap (λ (x : ℕ). x + 256 * getD ys (at + 4 * k + 1) 0) (s (at + 4 * k) (omega arith)) ∙ ap (λ (x : ℕ). getD xs (at + 4 * k) 0 + 256 * x) (s (at + 4 * k + 1) (omega arith))
+-- in place: what is scaled is what stood there at first, where nothing from there on has changed
+pub same-scaled : (n : ℕ) (g : Gain) (xs ys : List ℕ) (i at : ℕ) (ws : List ℕ) → i ≤ at → sameFrom i xs ys → scaledSide n g ys at ws → scaledSide n g xs at ws
+same-scaled n g xs ys i at ws h s w k l =
+    w k l ∙ ap (λ (x : ℕ). scaled16 g (x + 256 * getD ys (at + 4 * k + 1) 0)) (s (at + 4 * k) (omega arith)) ∙ ap (λ (x : ℕ). scaled16 g (getD xs (at + 4 * k) 0 + 256 * x)) (s (at + 4 * k + 1) (omega arith))
 
 -- a right sample's place, as the code computes it
 pub right-sample : (xs : List ℕ) (at k : ℕ) → getD xs (at + 4 * k + 2) 0 + 256 * getD xs (at + 4 * k + 3) 0 ≡ sampleAt xs (at + 2 + 4 * k)

@@ -57,12 +57,15 @@ zerosTo n ys = (m : ℕ) → m < n → getD ys m 0 ≡ 0
 abbrev pub sameFrom : ℕ → List ℕ → List ℕ → Type 0
 sameFrom n xs ys = (m : ℕ) → n ≤ m → getD ys m 0 ≡ getD xs m 0
 
--- n samples of a side, from the byte `at` on, taken out; and scaled.
+-- n samples of a side, from the byte `at` on, taken out; words scaled; and both.
 abbrev pub gathered : ℕ → List ℕ → ℕ → List ℕ → Type 0
 gathered n xs at ws = (k : ℕ) → k < n → getD ws k 0 ≡ sampleAt xs (at + 4 * k)
 
 abbrev pub scaledWords : ℕ → Gain → List ℕ → List ℕ → Type 0
 scaledWords n g vs ws = (k : ℕ) → k < n → getD ws k 0 ≡ scaled16 g (getD vs k 0)
+
+abbrev pub scaledSide : ℕ → Gain → List ℕ → ℕ → List ℕ → Type 0
+scaledSide n g xs at ws = (k : ℕ) → k < n → getD ws k 0 ≡ scaled16 g (sampleAt xs (at + 4 * k))
 
 -- n frames, each of a left and a right word, put from the byte `at` on; the bytes before and behind them stay.
 abbrev pub frameAt : List ℕ → ℕ → ℕ → ℕ → Type 0

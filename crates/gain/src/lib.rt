@@ -10,7 +10,7 @@ ghost use lib.ListN.{length};
 ghost use Prim.Native.Nat.{_+_, _*_, _/_, _%_, _≤_, _<_, min};
 ghost use Rattle.gain.specs.declared.Gain.the-variants.{Factor};
 ghost use Rattle.gain.specs.Gain.{factor, gainOf, wholeOf, rounded, scaled, signed16, bits16, scaled16, amplifiedOf, sideAt, amplifiedByte, onePassOf};
-ghost use Rattle.gain.specs.Fast.{roundable, limited, magnitude16, withSign16, isSilence, isUnity, blockwise, amplifiedTo, zerosTo, sameFrom, gathered, scaledWords, scattered, sampleScaled};
+ghost use Rattle.gain.specs.Fast.{roundable, limited, magnitude16, withSign16, isSilence, isUnity, blockwise, amplifiedTo, zerosTo, sameFrom, gathered, scaledWords, scaledSide, scattered, sampleScaled};
 
 // What is done to a sample: `scaled` of specs/Gain.antt has the meaning of each case.
 pub enum Gain {
@@ -255,9 +255,7 @@ fn blocks_in_place(pcm: &mut [u8], whole: usize, left: Gain, right: Gain)
     let mut i = 0;
     while i < whole {
         let n = block_of(whole - i);
-        gather(pcm, i, &mut lefts, &mut rights, n);
-        scale_side(&mut lefts, n, left);
-        scale_side(&mut rights, n, right);
+        scale_frames(pcm, i, &mut lefts, &mut rights, n, left, right);
         scatter(&lefts, &rights, pcm, i, n);
         i += 4 * n;
     }
@@ -304,9 +302,7 @@ fn blocks_into(pcm: &[u8], into: &mut [u8], whole: usize, left: Gain, right: Gai
     let mut i = 0;
     while i < whole {
         let n = block_of(whole - i);
-        gather(pcm, i, &mut lefts, &mut rights, n);
-        scale_side(&mut lefts, n, left);
-        scale_side(&mut rights, n, right);
+        scale_frames(pcm, i, &mut lefts, &mut rights, n, left, right);
         scatter(&lefts, &rights, into, i, n);
         i += 4 * n;
     }
@@ -363,6 +359,24 @@ fn block_of(left: usize) -> usize
 {
     let n = left / 4;
     if n < 64 { n } else { 64 }
+}
+
+// The samples of n frames from the byte `at` on, each scaled by its side's gain.
+fn scale_frames(
+    pcm: &[u8],
+    at: usize,
+    lefts: &mut [u16],
+    rights: &mut [u16],
+    n: usize,
+    left: Gain,
+    right: Gain,
+)
+    requires { ⌜ (n ≤ length (now lefts)) × (n ≤ length (now rights)) × (at + 4 * n ≤ length (now pcm)) ⌝ }
+    ensures { λ _. ⌜ scaledSide n left (now (pcm .entry)) at (now (lefts .exit)) × scaledSide n right (now (pcm .entry)) (at + 2) (now (rights .exit)) ⌝ }
+{
+    gather(pcm, at, lefts, rights, n);
+    scale_side(lefts, n, left);
+    scale_side(rights, n, right);
 }
 
 // The samples of n frames: the left ones at `at`, at + 4, at + 8 and so on, the right ones two bytes behind each.
