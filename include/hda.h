@@ -31,20 +31,21 @@ extern "C" {
 
 /* The numbers that calls return (hda_number). A refusal changes nothing, except HDA_HOST_CLOSED from hda_advance. */
 #define HDA_DONE 0
-#define HDA_HOST_CLOSED 1  /* an opening failed: in hda_advance the stream stopped and what came before stands, in hda_restore nothing changed */
-#define HDA_SHORT_STATE 2  /* hda_restore, up to 8: the state ends inside a field */
+#define HDA_HOST_CLOSED 1  /* an opening failed: in hda_advance the stream stopped and what came before stands, in hda_restore and hda_restore_emptied nothing changed */
+#define HDA_SHORT_STATE 2  /* hda_restore and hda_restore_emptied, up to 8: the state ends inside a field */
 #define HDA_WRONG_MARK 3   /* the state does not begin with HDA1 */
 #define HDA_MICROPHONE 4   /* the state is of a device with a microphone and this one has none, or the other way round */
 #define HDA_FORMAT 5       /* a format word of the state is unsupported; a guest can store one */
 #define HDA_LIST_LENGTH 6  /* more than 4,352 positions for a stream, or more than the state has bytes for */
 #define HDA_LIST_ORDER 7   /* a position not above the one before, or above what was submitted */
 #define HDA_STREAM 8       /* a stream's descriptor, counts or time */
-#define HDA_STATE 9        /* bytes that are no record, or a record that breaks a condition; hda_restore also: bytes left over, pause byte, clock, responses, identity */
+#define HDA_STATE 9        /* bytes that are no record, or a record that breaks a condition; hda_restore and hda_restore_emptied also: bytes left over, pause byte, clock, responses, identity */
 #define HDA_LENT_SPACE 10  /* lists, queues, or the space for a saved state too short */
 #define HDA_ODD_FRAMES 11  /* hda_feed, hda_pull: length no multiple of 4 */
 #define HDA_LATENCY 12     /* hda_set_downstream: above 14,336 or no multiple of 4 */
 #define HDA_WAV 13         /* hda_wav_write: a rate that the box does not have, frames of no multiple of 4 bytes or too many; hda_wav_read: not a file that hda_wav_write makes */
 #define HDA_SHORT_SPACE 14 /* hda_wav_write, hda_wav_read: space for the result too short */
+#define HDA_CROWDED 20     /* hda_restore: positions fewer than 4 bytes apart, or the last with the stream's descriptor offset above what was submitted */
 
 /* Every function returns one number, which these take apart; hda_wav_write and hda_wav_read have hda_number and two of their own. */
 
@@ -143,11 +144,16 @@ uint64_t hda_set_paused(uint8_t *device, size_t device_length, const uint8_t *ho
 uint64_t hda_save(const uint8_t *device, size_t device_length, const uint8_t *host, size_t host_length, const uint8_t *lists, size_t lists_length,
                   const uint8_t *queues, size_t queues_length, uint8_t *into, size_t into_length);
 
-/* The device takes a saved state: the whole of `state`. Where it is refused nothing changes: HDA_SHORT_STATE to HDA_STATE in the order of the bytes, then
- * HDA_HOST_CLOSED where a stream of the state runs and its opening fails. Where it is accepted queues are empty, the later of the two clocks stays, and nothing of the
+/* The device takes a saved state: the whole of `state`. Where it is refused nothing changes: HDA_SHORT_STATE to HDA_STATE in the order of the bytes, with HDA_CROWDED for
+ * a stream directly after its HDA_STREAM, then HDA_HOST_CLOSED where a stream of the state runs and its opening fails. Where it is accepted queues are empty, the later of the two clocks stays, and nothing of the
  * host end changes but the queues' lengths and which streams are open. */
 uint64_t hda_restore(uint8_t *device, size_t device_length, uint8_t *host, size_t host_length, uint8_t *lists, size_t lists_length, const uint8_t *queues,
                      size_t queues_length, const uint8_t *state, size_t state_length);
+
+/* The same for a stored state that hda_restore refuses with HDA_CROWDED: each crowded list is emptied, and nothing else of the state changes; a list that is not crowded
+ * stays. Every other refusal is hda_restore's, HDA_CROWDED is never given. The completions of an emptied list are lost: the guest gets no interrupt for them. */
+uint64_t hda_restore_emptied(uint8_t *device, size_t device_length, uint8_t *host, size_t host_length, uint8_t *lists, size_t lists_length, const uint8_t *queues,
+                             size_t queues_length, const uint8_t *state, size_t state_length);
 
 /* Calls of the host's sound driver, on the host end alone. Before anything else HDA_LENT_SPACE for short queues, then HDA_STATE for the record. */
 

@@ -15,9 +15,10 @@ pub enum Difference {
     RestoreListLength,
     Rate88200,
     RatesReply,
+    RestoreCrowded,
 }
 
-pub const NAMES: [&str; 9] = [
+pub const NAMES: [&str; 10] = [
     "position-write",
     "submitted-overflow",
     "list-full",
@@ -27,6 +28,7 @@ pub const NAMES: [&str; 9] = [
     "restore-list-length",
     "rate-88200",
     "rates-reply",
+    "restore-crowded",
 ];
 
 thread_local! {

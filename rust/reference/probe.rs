@@ -57,4 +57,11 @@ impl Hda {
             self.playback = None;
         }
     }
+
+    /// Sets a stream's counts and its list, as one who hands in a device may: restore takes no crowded list.
+    pub fn probe_set_list(&mut self, stream: usize, submitted: u64, consumed: u64, positions: &[u64]) {
+        let stream = &mut self.streams[stream];
+        (stream.submitted, stream.consumed) = (submitted, consumed);
+        stream.completions = positions.iter().copied().collect();
+    }
 }

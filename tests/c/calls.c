@@ -1,5 +1,5 @@
-/* Calls every function of include/hda.h from C and checks a few answers: frames played and captured, a message sent, openings refused by a write and by time, a state saved and restored, slices
- * of length 0 at NULL, the rate of every format word, frames written as a WAV file and read back, its header changed byte by byte. */
+/* Calls every function of include/hda.h from C and checks a few answers: frames played and captured, a message sent, openings refused by a write and by time, a state saved and restored, one with a crowded
+ * list refused and taken with the list emptied, slices of length 0 at NULL, the rate of every format word, frames written as a WAV file and read back, its header changed byte by byte. */
 #include "hda.h"
 #include <stdio.h>
 #include <string.h>
@@ -218,6 +218,7 @@ static void empty(void)
     CHECK(hda_number(hda_pin_presence_changed(RECORDS, NOTHING, 3)), HDA_DONE);
     CHECK(hda_number(hda_save(RECORDS, NOTHING)), HDA_LENT_SPACE);
     CHECK(hda_number(hda_restore(RECORDS, NOTHING)), HDA_SHORT_STATE);
+    CHECK(hda_number(hda_restore_emptied(RECORDS, NOTHING)), HDA_SHORT_STATE);
     /* A guest with no memory: both streams run, find no descriptor and stop with a stream error. */
     CHECK(read_register(0x80, 1) & read_register(0xa0, 1) & 2, 2);
     CHECK(hda_number(hda_advance(RECORDS, NOTHING, 1000000)), HDA_DONE);
@@ -284,13 +285,71 @@ static void rates(void)
     CHECK(hda_rate(device, host, 2), 0);
 }
 
-/* Whether the bytes from `first` to before `end` are all 0xee, which the tests of takes lay before a call. */
+/* Whether the bytes from `first` to before `end` are all 0xee, which tests lay before a call. */
 static int untouched(const uint8_t *bytes, size_t first, size_t end)
 {
     for (size_t i = first; i < end; i++)
         if (bytes[i] != 0xee)
             return 0;
     return 1;
+}
+
+/* The low `width` bytes of a value into bytes from `place` on, lowest first. */
+static void lay(uint8_t *bytes, size_t place, size_t width, uint64_t value)
+{
+    for (size_t i = 0; i < width; i++)
+        bytes[place + i] = (uint8_t)(value >> 8 * i);
+}
+
+/* A stream of `state`: 34 bytes of numbers, with 100 bytes submitted and none consumed, then two pending positions. */
+static void lay_stream(size_t place, uint64_t first, uint64_t second)
+{
+    memset(state + place, 0, 34);
+    lay(state, place + 6, 8, 100);
+    lay(state, place + 30, 4, 2);
+    lay(state, place + 34, 8, first);
+    lay(state, place + 42, 8, second);
+}
+
+/* A state with two positions pending in each stream: those of the capture are one byte apart, those of the playback 4. */
+static void crowded(void)
+{
+    const size_t length = 748 + 32, playback = 680 + 50, playback_list = HDA_LISTS_BYTES / 2;
+    uint8_t before[HDA_DEVICE_BYTES];
+    CHECK(hda_new(device, sizeof device, lists, sizeof lists, queues, sizeof queues, 1), HDA_DONE);
+    CHECK(hda_host_new(HOST), HDA_DONE);
+    CHECK(hda_value(hda_save(RECORDS, state, sizeof state)), 748);
+    lay_stream(680, 40, 41);
+    lay_stream(playback, 60, 64);
+    memcpy(before, device, sizeof before);
+    memset(lists, 0xee, sizeof lists);
+    CHECK(hda_number(hda_restore(RECORDS, state, length)), HDA_CROWDED);
+    /* Whatever else is wrong, both refuse. */
+    CHECK(hda_number(hda_restore_emptied(RECORDS, state, length - 1)), HDA_LIST_LENGTH);
+    CHECK(hda_number(hda_restore_emptied(RECORDS, state, length + 1)), HDA_STATE);
+    CHECK(memcmp(before, device, sizeof before), 0);
+    CHECK(untouched(lists, 0, sizeof lists), 1);
+    /* The capture's list is empty, and nothing else of it changed; the playback's list is there. */
+    CHECK(hda_number(hda_restore_emptied(RECORDS, state, length)), HDA_DONE);
+    CHECK(memcmp(device + 680, state + 680, 30), 0);
+    CHECK(stands(device, 680 + 30, 4), 0);
+    CHECK(untouched(lists, 0, playback_list), 1);
+    CHECK(memcmp(device + 680 + 34, state + playback, 34), 0);
+    CHECK(memcmp(lists + playback_list, state + playback + 34, 16), 0);
+    CHECK(untouched(lists, playback_list + 16, sizeof lists), 1);
+    /* What is then saved hda_restore takes, but not with positions 3 apart, and up to a descriptor offset that reaches from the last one to what was submitted. */
+    CHECK(hda_value(hda_save(RECORDS, state, sizeof state)), 748 + 16);
+    CHECK(hda_number(hda_restore(RECORDS, state, 748 + 16)), HDA_DONE);
+    lay(state, 748, 8, 61);
+    CHECK(hda_number(hda_restore(RECORDS, state, 748 + 16)), HDA_CROWDED);
+    lay(state, 748, 8, 60);
+    state[680 + 34 + 2] = 36;
+    CHECK(hda_number(hda_restore(RECORDS, state, 748 + 16)), HDA_DONE);
+    state[680 + 34 + 2] = 37;
+    CHECK(hda_number(hda_restore(RECORDS, state, 748 + 16)), HDA_CROWDED);
+    CHECK(hda_number(hda_restore_emptied(RECORDS, state, 748 + 16)), HDA_DONE);
+    CHECK(stands(device, 680 + 34 + 2, 4), 37);
+    CHECK(stands(device, 680 + 34 + 30, 4), 0);
 }
 
 /* Two frames at 88,200 as a file. */
@@ -397,6 +456,7 @@ static void nothing(void)
         hda_set_paused(NOTHING, NOTHING, NOTHING, NOTHING, 1),
         hda_save(NOTHING, NOTHING, NOTHING, NOTHING, NOTHING),
         hda_restore(NOTHING, NOTHING, NOTHING, NOTHING, NOTHING),
+        hda_restore_emptied(NOTHING, NOTHING, NOTHING, NOTHING, NOTHING),
         hda_feed(NOTHING, NOTHING, NOTHING),
         hda_pull(NOTHING, NOTHING, NOTHING),
         hda_set_playback_fails(NOTHING, NOTHING, 1),
@@ -417,6 +477,7 @@ static void nothing(void)
         hda_set_paused(NOTHING, NOTHING, LISTS, QUEUES, 1),
         hda_save(NOTHING, NOTHING, LISTS, QUEUES, NOTHING),
         hda_restore(NOTHING, NOTHING, LISTS, QUEUES, NOTHING),
+        hda_restore_emptied(NOTHING, NOTHING, LISTS, QUEUES, NOTHING),
         hda_feed(NOTHING, QUEUES, NOTHING),
         hda_pull(NOTHING, QUEUES, NOTHING),
         hda_set_playback_fails(NOTHING, QUEUES, 1),
@@ -439,6 +500,7 @@ int main(void)
     empty();
     exchanged();
     rates();
+    crowded();
     wav_written();
     wav_read();
     wav_empty();

@@ -8,8 +8,8 @@ use native.Mathlib.Numerals.{one-add}
 use borrow.Author.Tests.{ltb-true, leb-true, leb-false, lt-leb}
 use lib.Dec.{ltb, leb}
 use lib.ListN.{length, drop}
-use Rattle.positions.specs.Positions.{risesOf, upToOf}
-use Rattle.pieces.proofs.Spacing.{SpacedFrom, Spaced}
+use Rattle.word.proofs.Choices.{left, right}
+use Rattle.positions.specs.Positions.{risesOf, upToOf, spacedFrom, spacedOf}
 use Rattle.book.specs.Book.{limit, upTo, above}
 use Rattle.book.specs.Claim.{Rises, FourFrom, FourApart}
 
@@ -81,19 +81,21 @@ halves c lo (p ∷ ps) hi r =
     (λ e. (none-up c p ps hi (omega (arith, leb-false p c e)) (r .1), all-above c p ps hi (omega (arith, leb-false p c e)) (r .1)))
 
 -- few positions 4 apart fit between two counts that are at most 16,384 bytes apart
-spaced-room : (p offset hi : ℕ) (ps : List ℕ) → SpacedFrom p offset hi ps → p + 4 * length ps ≤ hi
-spaced-room p offset hi [] f = omega arith
-spaced-room p offset hi (q ∷ ps) f = omega (arith, f .0, spaced-room q offset hi ps (f .1))
+spaced-room : (p offset hi : ℕ) (ps : List ℕ) → spacedFrom p offset hi ps ≡ true → p + 4 * length ps ≤ hi
+unfolding spacedFrom
+spaced-room p offset hi [] f = omega (arith, leb-true (p + offset) hi f)
+spaced-room p offset hi (q ∷ ps) f = omega (arith, leb-true (p + 4) q (left (leb (p + 4) q) _ f), spaced-room q offset hi ps (right (leb (p + 4) q) _ f))
 
-pub few-pending : (lo offset hi : ℕ) (ps : List ℕ) → Spaced offset hi ps → Rises lo ps hi → hi ≤ lo + 16384 → length ps < limit
+pub few-pending : (lo offset hi : ℕ) (ps : List ℕ) → spacedOf offset hi ps ≡ true → Rises lo ps hi → hi ≤ lo + 16384 → length ps < limit
 few-pending lo offset hi [] f r near = omega arith
 few-pending lo offset hi (p ∷ ps) f r near = omega (arith, r .0, spaced-room p offset hi ps f)
 
 -- positions 4 apart
-four-from : (p offset hi : ℕ) (ps : List ℕ) → SpacedFrom p offset hi ps → FourFrom p ps
+four-from : (p offset hi : ℕ) (ps : List ℕ) → spacedFrom p offset hi ps ≡ true → FourFrom p ps
+unfolding spacedFrom
 four-from p offset hi [] f = tt
-four-from p offset hi (q ∷ ps) f = (f .0, four-from q offset hi ps (f .1))
+four-from p offset hi (q ∷ ps) f = (leb-true (p + 4) q (left (leb (p + 4) q) _ f), four-from q offset hi ps (right (leb (p + 4) q) _ f))
 
-pub four-apart : (offset hi : ℕ) (ps : List ℕ) → Spaced offset hi ps → FourApart ps
+pub four-apart : (offset hi : ℕ) (ps : List ℕ) → spacedOf offset hi ps ≡ true → FourApart ps
 four-apart offset hi [] f = tt
 four-apart offset hi (p ∷ ps) f = four-from p offset hi ps f

@@ -22,7 +22,7 @@ use Rattle.book.proofs.Tied.{Tied, tied-moved}
 -- a stream in a period that ends at most 16,384 bytes ahead of what is heard
 pub record Going (F : Type 0) (count : ℕ) (x : State) (a : Ghost) : Type 0 where
   pub tied : Tied F (x .stream) (x .list) a
-  pub room : F → x .stream .submitted + (count - x .done) ≤ x .stream .consumed + 16384
+  pub room : x .stream .submitted + (count - x .done) ≤ x .stream .consumed + 16384
 
 module _ (F : Type 0) (v : Given) (g : Cyclic) (buffered : g ≡ bufferOf v) (count : ℕ) (byte : g .lvi ≤ 255) where
   plan-tied : (x : State) (a : Ghost) → x .done < count → Going F count x a → (p : Plan) → NextOk g count x p → Says v (x .stream) (x .memory) (count - x .done) p
@@ -32,8 +32,8 @@ module _ (F : Type 0) (v : Given) (g : Cyclic) (buffered : g ≡ bufferOf v) (co
   plan-tied x a more t Full k says = t
   plan-tied x a more t (Move at n end) k says =
       record {
-        tied = tied-moved F v g buffered count byte x a at n end more k says (λ f. omega (arith, t .room f, k .few)) (t .tied);
-        room = λ f. omega (arith, t .room f, k .few, next-submitted (x .stream) (g .lvi) n end, next-consumed (x .stream) (g .lvi) n end);
+        tied = tied-moved F v g buffered count byte x a at n end more k says (omega (arith, t .room, k .few)) (t .tied);
+        room = omega (arith, t .room, k .few, next-submitted (x .stream) (g .lvi) n end, next-consumed (x .stream) (g .lvi) n end);
       }
 
   piece-tied : (x : State) (a : Ghost) → x .done < count → Going F count x a

@@ -1,7 +1,7 @@
 -- A buffer that a transfer does not take, and a plan that moves nothing, have one of document 01's reasons or meet the limit; and only these have. Assumes nothing.
-use Prim.Native.Nat.{ℕ, zero, suc, _+_, _-_, _%_}
+use Prim.Native.Nat.{ℕ, zero, suc, _+_, _-_, _%_, _<_}
 use mathlib.Core.Path.{_≡_, refl, sym, _∙_}
-use mathlib.Core.Bool.{Bool, true, false, not, _&&_, _||_, true≢false}
+use mathlib.Core.Bool.{Bool, true, false, not, _&&_, _||_, and-false, true≢false}
 use mathlib.Core.List.{List, [], _∷_}
 use native.Mathlib.Omega.{arith}
 use borrow.Author.Tests.{not-false, ltb-true, ltb-false, leb-true, leb-false, le-leb, lt-leb, lt-ltb, le-ltb}
@@ -42,6 +42,11 @@ abbrev pub moves : Plan → Bool
 moves Failed = false
 moves Full = false
 moves (Move at n end) = true
+
+-- with few pending the limit does not hold
+pub below-limit : (a : Attempt) (index offset submitted pending : ℕ) → pending < limit → isLimit a index offset submitted pending ≡ false
+unfolding isLimit
+below-limit a index offset submitted pending few = rw (lt-leb limit pending few, and-false (entryFlagged a index), and-false (endsEntry a index offset submitted))
 
 -- no reason holds
 record Clear (a : Attempt) (index offset submitted : ℕ) : Type 0 where

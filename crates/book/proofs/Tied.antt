@@ -1,5 +1,5 @@
--- A stream tied to the book: its counts and pending positions are the book's, nothing is lost or retired early, it is valid; and, where `F` holds, its positions are 4 apart, it
--- is at most 16,384 bytes ahead of what is heard, and 4,352 were never pending; no transfer has failed without its reason. What each event keeps of it. Assumes nothing.
+-- A stream tied to the book: its counts and pending positions are the book's, nothing is lost or retired early, it is valid, and its list is not crowded; and, where `F` holds, it
+-- is at most 16,384 bytes ahead of what is heard, and 4,352 were never pending; no transfer has failed without its reason or at the limit. What each event keeps of it. Assumes nothing.
 use Prim.Native.Nat.{ℕ, _+_, _-_, _≤_, _<_, max}
 use mathlib.Core.Path.{_≡_, refl, sym, ap, subst, _∙_}
 use mathlib.Core.Bool.{Bool, true, false, cond, not, _&&_, _||_}
@@ -11,7 +11,7 @@ use Rattle.positions.specs.Positions.{positionsOf}
 use Rattle.positions.proofs.Change.{retire-drops}
 use Rattle.stream.specs.declared.Stream.{Stream}
 use Rattle.stream.specs.declared.Cyclic.{Cyclic}
-use Rattle.stream.specs.Streams.{listSize, freshOf, validOf}
+use Rattle.stream.specs.Streams.{listSize, freshOf, validOf, uncrowdedOf}
 use Rattle.stream.specs.Update.{consumedOf, retiredOf, updateOf}
 use Rattle.stream.proofs.Validity.{valid-parts, parts-valid, fresh-valid, retired-few, update-list-length, update-valid}
 use Rattle.plan.specs.declared.End.{End}
@@ -23,12 +23,12 @@ use Rattle.pieces.proofs.Turns.{Moves}
 use Rattle.pieces.proofs.Facts.{length-list, next-submitted, next-consumed}
 use Rattle.pieces.proofs.Validity.{moved-kept}
 use Rattle.pieces.proofs.Positions.{moved-positions}
-use Rattle.pieces.proofs.Spacing.{SpacedAt, fresh-spaced, update-spaced, moved-spaced}
+use Rattle.pieces.proofs.Spacing.{fresh-spaced, update-spaced, moved-spaced}
 use Rattle.turn.specs.Engines.{withFraction}
 use Rattle.turn.proofs.Rounds.{time}
 use Rattle.book.specs.Buffers.{Attempt, entryFlagged, pieceBytes, endsEntry, entryBehind}
 use Rattle.book.specs.Book.{Book, limit, reset, moved, updated, failed, refused, upTo, above, restoredWith, positionIf, movedTo, movedBy, note}
-use Rattle.book.specs.Reasons.{isFounded}
+use Rattle.book.specs.Reasons.{isFounded, isUnlimited}
 use Rattle.book.specs.Events.{Given, attemptOf}
 use Rattle.book.specs.Claim.{Rises}
 use Rattle.book.proofs.Ghosts.{Ghost, ghost, isFull, see, none-full}
@@ -43,7 +43,7 @@ pub record Tied (F : Type 0) (s : Stream) (l : List ℕ) (a : Ghost) : Type 0 wh
   pub pending : positionsOf (s .pending) l ≡ a .book .pending
   pub exact : a .book .ends ≡ a .book .retired ++ a .book .pending
   pub past : Rises 0 (a .book .retired) (a .book .consumed)
-  pub spaced : F → SpacedAt s l
+  pub spaced : uncrowdedOf s l ≡ true
   pub ahead : F → s .submitted ≤ s .consumed + 16384
   pub never : F → a .full ≡ false
   pub founded : a .groundless ≡ false
@@ -51,7 +51,7 @@ pub record Tied (F : Type 0) (s : Stream) (l : List ℕ) (a : Ghost) : Type 0 wh
   pub offset : s .offset ≡ a .book .offset
 
 -- few are pending where positions are 4 apart and the stream is at most 16,384 bytes ahead
-few-now : (s : Stream) (l ps : List ℕ) → validOf s l ≡ true → positionsOf (s .pending) l ≡ ps → SpacedAt s l → s .submitted ≤ s .consumed + 16384 → length ps < limit
+pub few-now : (s : Stream) (l ps : List ℕ) → validOf s l ≡ true → positionsOf (s .pending) l ≡ ps → uncrowdedOf s l ≡ true → s .submitted ≤ s .consumed + 16384 → length ps < limit
 few-now s l ps valid e spaced ahead =
     let v = valid-parts s l valid in
     let view = positionsOf (s .pending) l in
@@ -109,7 +109,7 @@ module _ (F : Type 0) where
         past = t .past;
         spaced = t .spaced;
         ahead = t .ahead;
-        never = λ f. none-full (a .book .pending) (a .full) (few-now s l (a .book .pending) (t .valid) (t .pending) (t .spaced f) (t .ahead f)) (t .never f);
+        never = λ f. none-full (a .book .pending) (a .full) (few-now s l (a .book .pending) (t .valid) (t .pending) (t .spaced) (t .ahead f)) (t .never f);
         founded = rw e (t .founded);
         index = t .index;
         offset = t .offset;
@@ -120,9 +120,10 @@ module _ (F : Type 0) where
   unfolding note
   tied-refused s l a t = tied-kept s l a false refl t
 
-  pub tied-failed : (s : Stream) (l : List ℕ) (a : Ghost) (attempt : Attempt) → isFounded attempt (a .book) ≡ true → Tied F s l a → Tied F s l (see (failed attempt) a)
+  pub tied-failed : (s : Stream) (l : List ℕ) (a : Ghost) (attempt : Attempt) → isFounded attempt (a .book) ≡ true → isUnlimited attempt (a .book) ≡ true → Tied F s l a
+      → Tied F s l (see (failed attempt) a)
   unfolding note
-  tied-failed s l a attempt reason t = tied-kept s l a (not (isFounded attempt (a .book))) (rw reason) t
+  tied-failed s l a attempt reason below t = tied-kept s l a (not (isFounded attempt (a .book) && isUnlimited attempt (a .book))) (rw (reason, below)) t
 
   -- made or reset
   pub tied-reset : (l : List ℕ) (a : Ghost) → length l ≡ listSize → (F → a .full ≡ false) → a .groundless ≡ false → Tied F freshOf l (see reset a)
@@ -136,7 +137,7 @@ module _ (F : Type 0) where
         pending = refl;
         exact = refl;
         past = omega arith;
-        spaced = λ _. fresh-spaced l;
+        spaced = fresh-spaced l;
         ahead = λ _. omega arith;
         never = λ f. none-full [] (a .full) (omega arith) (never f);
         founded = founded;
@@ -145,7 +146,7 @@ module _ (F : Type 0) where
       }
 
   -- the first device, or one restored: counts and positions as they are
-  pub tied-opening : (s : Stream) (l ps : List ℕ) (full : Bool) → length l ≡ listSize → validOf s l ≡ true → positionsOf (s .pending) l ≡ ps → (F → SpacedAt s l)
+  pub tied-opening : (s : Stream) (l ps : List ℕ) (full : Bool) → length l ≡ listSize → validOf s l ≡ true → positionsOf (s .pending) l ≡ ps → uncrowdedOf s l ≡ true
       → (F → s .submitted ≤ s .consumed + 16384) → (F → full ≡ false) → (groundless : Bool) → groundless ≡ false → Tied F s l (ghost (restoredWith (s .submitted) (s .consumed) ps (s .descriptor) (s .offset)) full groundless)
   tied-opening s l ps full sized valid e spaced ahead never groundless founded =
       record {
@@ -183,7 +184,7 @@ module _ (F : Type 0) where
       let pending : positionsOf (u .updated .stream .pending) (u .list) ≡ above c′ (b .pending) =
       retire-drops k (s .pending) l (retired-few s l latency) (omega (arith, v .few))
       ∙ sym (above-drop c (s .consumed) view (s .submitted) r) ∙ ap (λ (n : ℕ). above n view) same ∙ ap (above c′) (t .pending) in
-      let spaced : F → SpacedAt (u .updated .stream) (u .list) = λ f. update-spaced s l latency (v .few) room (t .spaced f) in
+      let spaced : uncrowdedOf (u .updated .stream) (u .list) ≡ true = update-spaced s l latency (v .few) room (t .spaced) in
       let ahead : F → u .updated .stream .submitted ≤ u .updated .stream .consumed + 16384 = λ f. omega (arith, t .ahead f) in
       record {
         sized = update-list-length s l latency (v .few) room ∙ t .sized;
@@ -198,7 +199,7 @@ module _ (F : Type 0) where
             (up-rises c′ (b .consumed) (b .pending) (s .submitted) (omega arith) (rises-same (t .consumed) (t .pending) refl r));
         spaced = spaced;
         ahead = ahead;
-        never = λ f. none-full (above c′ (b .pending)) (a .full) (few-now (u .updated .stream) (u .list) (above c′ (b .pending)) valid pending (spaced f) (ahead f)) (t .never f);
+        never = λ f. none-full (above c′ (b .pending)) (a .full) (few-now (u .updated .stream) (u .list) (above c′ (b .pending)) valid pending spaced (ahead f)) (t .never f);
         founded = t .founded;
         index = t .index;
         offset = t .offset;
@@ -223,7 +224,7 @@ module _ (F : Type 0) where
         ∙ ap (λ (t : Bool). movedTo n (endsOf end) t behind b) flags
 
     pub tied-moved : (x : State) (a : Ghost) (at n : ℕ) (end : End) → x .done < count → Moves g count x at n end → Says v (x .stream) (x .memory) (count - x .done) (Move at n end)
-        → (F → x .stream .submitted + n ≤ x .stream .consumed + 16384) → Tied F (x .stream) (x .list) a
+        → x .stream .submitted + n ≤ x .stream .consumed + 16384 → Tied F (x .stream) (x .list) a
         → let y = movedOf g x at n end in Tied F (y .stream) (y .list) (see (moved (attemptOf v count x)) a)
     unfolding note
     tied-moved x a at n end more k says room t =
@@ -240,8 +241,8 @@ module _ (F : Type 0) where
         ∙ ap (λ (ps : List ℕ). ps ++ endedOf (s .submitted + n) end) (t .pending)
         ∙ ap (λ (m : ℕ). b .pending ++ endedOf (m + n) end) (t .submitted)
         ∙ ap (λ (ps : List ℕ). b .pending ++ ps) (sym (moved-pending n end b)) in
-        let spaced : F → SpacedAt (y .stream) (y .list) = λ f. moved-spaced g count x at n end k long (t .spaced f) in
-        let ahead : F → y .stream .submitted ≤ y .stream .consumed + 16384 = λ f. omega (arith, room f, next-submitted s (g .lvi) n end, next-consumed s (g .lvi) n end) in
+        let spaced : uncrowdedOf (y .stream) (y .list) ≡ true = moved-spaced g count x at n end k long (t .spaced) in
+        let ahead : F → y .stream .submitted ≤ y .stream .consumed + 16384 = λ _. omega (arith, room, next-submitted s (g .lvi) n end, next-consumed s (g .lvi) n end) in
         let last = positionIf (flaggedOf end) (b .submitted + n) in
         let lvi : g .lvi ≡ v .last = ap (λ (h : Cyclic). h .lvi) buffered in
         subst (λ (d : Book). Tied F (y .stream) (y .list) (ghost d (isFull (d .pending) (a .full)) (a .groundless)))
@@ -256,7 +257,7 @@ module _ (F : Type 0) where
           past = t .past;
           spaced = spaced;
           ahead = ahead;
-          never = λ f. none-full ps (a .full) (few-now (y .stream) (y .list) ps valid pending (spaced f) (ahead f)) (t .never f);
+          never = λ f. none-full ps (a .full) (few-now (y .stream) (y .list) ps valid pending spaced (ahead f)) (t .never f);
           founded = t .founded;
           index = next-index s (g .lvi) n end ∙ rw (lvi, t .index);
           offset = next-offset s (g .lvi) n end ∙ rw (t .offset);

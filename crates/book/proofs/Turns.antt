@@ -1,7 +1,7 @@
 -- A stream's turn keeps it tied to the book: the position update, a transfer, the rounds, the turn. Assumes nothing.
 use Prim.Native.Nat.{ℕ, zero, suc, _+_, _-_, _*_, _/_, _≤_, _<_, min}
 use mathlib.Core.Path.{_≡_, refl, sym, ap, subst, _∙_}
-use mathlib.Core.Bool.{Bool, true, false, cond, not, _&&_, true≢false}
+use mathlib.Core.Bool.{Bool, true, false, cond, not, _&&_, or-false, true≢false}
 use mathlib.Core.List.{List, [], _∷_}
 use mathlib.Core.Logic.{_⊎_, inl, inr, ⊎-elim}
 use native.Mathlib.Omega.{arith}
@@ -41,12 +41,13 @@ use Rattle.turn.specs.Engines.{Work, workOf, engine, stoppedOf, movedOn, Update
 use Rattle.turn.specs.Turns.{openStreamOf, engineOf, Turn, formattedOf}
 use Rattle.turn.proofs.Facts.{frames-few, publish-by, transfer-queue, transfer-queued}
 use Rattle.turn.proofs.Validity.{open-stream-valid}
-use Rattle.book.specs.Book.{Event, updated, failed, refused}
+use Rattle.book.specs.Book.{Event, limit, updated, failed, refused}
+use Rattle.book.specs.Reasons.{isReason, isLimit}
 use Rattle.book.specs.Events.{onlyIf, Given, givenOf, piecesEvents, samplesOf, standingOf, attemptOf, failureEvents, transferEvents, unheard, updateEvent, roundEvents, againRounds, roundsEvents, timedEvents, servedEvents, formattedEvents}
 use Rattle.book.proofs.Ghosts.{Ghost, see, sees, sees-append}
-use Rattle.book.proofs.Tied.{Tied, tied-times, tied-refused, tied-failed, tied-updated}
-use Rattle.book.proofs.Reasons.{bufferOf, moves, Reasoned, unready-reasoned, unmoved-reasoned}
-use Rattle.book.proofs.Pieces.{pieces-tied, pieces-stuck}
+use Rattle.book.proofs.Tied.{Tied, few-now, tied-times, tied-refused, tied-failed, tied-updated}
+use Rattle.book.proofs.Reasons.{bufferOf, moves, Reasoned, below-limit, unready-reasoned, unmoved-reasoned}
+use Rattle.book.proofs.Pieces.{Going, pieces-tied, pieces-stuck}
 
 pub update-near : (s : Stream) (l : List ℕ) (latency : ℕ) → let u = updateOf s l latency .updated .stream in u .submitted ≤ u .consumed + latency
 unfolding updateOf
@@ -122,19 +123,25 @@ module _ (F : Type 0) where
         let e = x .engine in
         transfer-queue (g .cyclic) (e .stream) (e .queue) (g .connected) (g .left) (g .right) (x .list) (x .part) (x .memory) (4 * n) (Opened g) up up (λ pcm. up)
 
-    -- a transfer that failed has its reason, by the book that the stream is tied to
-    founded-by : (count : ℕ) (x : State) (a : Ghost) → Tied F (x .stream) (x .list) a → Reasoned v (x .stream) (x .memory) (count - x .done)
-        → Tied F (x .stream) (x .list) (see (failed (attemptOf v count x)) a)
-    founded-by count x a t reason =
-        let pending : length (a .book .pending) ≡ x .stream .pending = ap length (sym (t .pending)) ∙ length-positions (x .stream .pending) (x .list) in
-        tied-failed F (x .stream) (x .list) a (attemptOf v count x) (rw (← t .submitted, ← t .index, ← t .offset, pending) reason) t
+    -- a transfer that failed has its reason, by the book that the stream is tied to: not the limit, since it was at most 16,384 bytes ahead
+    founded-by : (count : ℕ) (x : State) (a : Ghost) → Tied F (x .stream) (x .list) a → x .stream .submitted ≤ x .stream .consumed + 16384
+        → Reasoned v (x .stream) (x .memory) (count - x .done) → Tied F (x .stream) (x .list) (see (failed (attemptOf v count x)) a)
+    founded-by count x a t near reason =
+        let attempt = attemptOf v count x in
+        let s = x .stream in
+        let few : length (a .book .pending) < limit = few-now s (x .list) (a .book .pending) (t .valid) (t .pending) (t .spaced) near in
+        let pending : length (a .book .pending) ≡ s .pending = ap length (sym (t .pending)) ∙ length-positions (s .pending) (x .list) in
+        let below : isLimit attempt (s .descriptor) (s .offset) (s .submitted) (s .pending) ≡ false = below-limit attempt (s .descriptor) (s .offset) (s .submitted) (s .pending) (omega (arith, few, pending)) in
+        tied-failed F s (x .list) a attempt
+        (rw (← t .submitted, ← t .index, ← t .offset) (rw (below, or-false (isReason attempt (s .descriptor) (s .offset) (s .submitted))) at reason))
+        (rw (← t .submitted, ← t .index, ← t .offset, pending, below)) t
 
     -- what the pieces of `count` bytes leave, with the failure where they stopped
     pieces-ended : (s : Stream) (l m pcm : List ℕ) (count : ℕ) (a : Ghost) → 0 < g .cyclic .cbl
         → let y = stateOf s l m pcm 0 in
         let o = piecesOf count (g .cyclic) count y in
         let z = o .state in
-        Tied F (z .stream) (z .list) a → Tied F (z .stream) (z .list) (sees (failureEvents v count s (o .ok) (z .stream) (standingOf count (g .cyclic) count y)) a)
+        Going F count z a → Tied F (z .stream) (z .list) (sees (failureEvents v count s (o .ok) (z .stream) (standingOf count (g .cyclic) count y)) a)
     pieces-ended s l m pcm count a some t =
         let c = g .cyclic in
         let y = stateOf s l m pcm 0 in
@@ -144,16 +151,16 @@ module _ (F : Type 0) where
         (λ ok. let all : ltb (z .stream .submitted) (s .submitted + count) ≡ false =
         le-ltb (z .stream .submitted) (s .submitted + count)
         (omega (arith, pieces-submitted c count count y, pieces-done c count some count y (omega arith) (omega arith) ok)) in
-        rw (ok, all) t)
+        rw (ok, all) (t .tied))
         (λ stopped. let k = pieces-stuck c count count y stopped in
         rw (stopped, k .1)
-        (founded-by count z a t
+        (founded-by count z a (t .tied) (omega (arith, t .room))
         (unmoved-reasoned v (z .stream) (z .memory) (count - z .done)
         (subst (λ (c : Cyclic). moves (planOf c (z .stream) (z .memory) (count - z .done)) ≡ false) buffered (k .0)))))
 
     -- a transfer
     moved-still : (x : Work) (n : ℕ) (a : Ghost) → n ≤ 256 → Still F (x .engine .stream) (x .engine .queue) (x .list) a
-        → (F → x .engine .stream .submitted + 4 * n ≤ x .engine .stream .consumed + 16384)
+        → x .engine .stream .submitted + 4 * n ≤ x .engine .stream .consumed + 16384
         → let t = transferAt g x n in Still F (t .transferred .stream) (t .transferred .queue) (t .list) (sees (transferEvents v g x n) a)
     unfolding transferOf captureOf playbackOf transferEvents
     moved-still x n a short h room =
@@ -176,13 +183,13 @@ module _ (F : Type 0) where
               (λ ready. rw ready (
               let each : (pcm : List ℕ) → let z = piecesOf count c count (start pcm) in Q (withPieces z q (x .part)) pcm =
               λ pcm. pieces-ended s (x .list) (x .memory) pcm count (sees (piecesEvents v count c count (start pcm)) a) (ready-cyclic c ready)
-              (pieces-tied F v c buffered count (ready-byte c ready) count (start pcm) a (record { tied = h .tied; room = λ f. omega (arith, room f) }) .tied) in
+              (pieces-tied F v c buffered count (ready-byte c ready) count (start pcm) a (record { tied = h .tied; room = omega (arith, room) })) in
               by-both Q (c .capture) (captureOf c s q (g .connected) (g .left) (g .right) (x .list) (x .part) (x .memory) count)
               (playbackOf c s q (g .connected) (g .left) (g .right) (x .list) (x .part) (x .memory) count) sound (silence count)
               (λ _. each sound)
               (λ _. by-cond (λ t. Q t (silence count)) (o .ok) _ (withPieces o q (x .part)) (λ _. each (silence count)) (λ _. each (silence count)))))
               (λ unready. rw unready
-              (founded-by count begun a (h .tied) (unready-reasoned v s (x .memory) (count - 0) (ap readyOf (sym buffered) ∙ unready)))));
+              (founded-by count begun a (h .tied) (omega (arith, room)) (unready-reasoned v s (x .memory) (count - 0) (ap readyOf (sym buffered) ∙ unready)))));
           queued = transfer-queued c s q (g .connected) (g .left) (g .right) (x .list) (x .part) (x .memory) count (h .queued);
         }
 
@@ -198,7 +205,7 @@ module _ (F : Type 0) where
         let t′ = t .transferred in
         let es = transferEvents v g x n in
         let a′ = sees es a in
-        let moved = moved-still x n a (frames-few g e .1) (r .still) (λ _. omega (arith, r .near (inr some), frames-room e (r .still .queued))) in
+        let moved = moved-still x n a (frames-few g e .1) (r .still) (omega (arith, r .near (inr some), frames-room e (r .still .queued))) in
         let up = moved-opened x n (r .opened (inr some)) in
         let e′ = transferredOf e (t′ .stream) (t′ .queue) n in
         let e″ = engine (e .running) (e .status) (e .position) (t′ .stream) (t′ .queue) in

@@ -1,11 +1,12 @@
 -- Demand 3, whole (document 01, "The book of demand 3").
 use Prim.Native.Nat.{ℕ, _+_, _*_, _≤_, _<_}
 use mathlib.Core.Path.{_≡_}
-use mathlib.Core.Bool.{Bool}
+use mathlib.Core.Bool.{Bool, true}
 use mathlib.Core.List.{List, [], _∷_, _++_}
 use lib.ListN.{length}
 use Rattle.stream.specs.Box.{streams}
-use Rattle.stream.specs.Streams.{listSize}
+use Rattle.word.specs.Parts.{partOf}
+use Rattle.stream.specs.Streams.{listSize, uncrowdedOf}
 use Rattle.queue.specs.Queues.{capacity}
 use Rattle.host.specs.declared.Host.{Host}
 use Rattle.device.specs.Devices.{freshOf, streamAt}
@@ -38,22 +39,22 @@ abbrev pub Few : List Event → Book → Type 0
 Few [] b = length (b .pending) < limit
 Few (e ∷ es) b = (length (b .pending) < limit) × Few es (note e b)
 
--- a device newly made, where the lent spaces are large enough, whatever the host end and guest memory are; or one that an accepted restore put in force
+-- a device newly made, where the lent spaces are large enough, whatever the host end and guest memory are; or one that an accepted restore, of either kind, put in force
 abbrev pub made : Bool → Host → List ℕ → List ℕ → List ℕ → Machine
 made microphone h lists queues memory = machine (freshOf microphone) h lists queues memory
 
-abbrev pub Accepts : List ℕ → Machine → Type 0
-Accepts s x = (checkMachine x ≡ 0) × (numberOf s (x .hda) (x .host) ≡ 0)
+abbrev pub Accepts : Bool → List ℕ → Machine → Type 0
+Accepts strict s x = (checkMachine x ≡ 0) × (numberOf strict s (x .hda) (x .host) ≡ 0)
 
 pub data Starts : Machine → Type 0 where
   new : (microphone : Bool) (h : Host) (lists queues memory : List ℕ) → listSize * streams ≤ length lists → capacity * streams ≤ length queues
       → Starts (made microphone h lists queues memory)
-  restored : (s : List ℕ) (x : Machine) → Accepts s x → Starts (after (calls.restore s) x)
+  restored : (strict : Bool) (s : List ℕ) (x : Machine) → Accepts strict s x → Starts (after (calls.restore strict s) x)
 
--- says where the book of one stream starts: a new device's is empty; a restored one's is what the accepted restore makes of any book, the state's counts and positions
+-- says where the book of one stream starts: a new device's is empty; a restored one's is what the accepted restore makes of any book, the state's counts and the positions that it leaves
 pub record Opens (i : ℕ) : Type 0 where
   pub fresh : (microphone : Bool) (h : Host) (lists queues memory : List ℕ) → openingOf i (made microphone h lists queues memory) ≡ book.made
-  pub resumed : (s : List ℕ) (x : Machine) → Accepts s x → (b : Book) → openingOf i (after (calls.restore s) x) ≡ note (restoredEvent s i) b
+  pub resumed : (strict : Bool) (s : List ℕ) (x : Machine) → Accepts strict s x → (b : Book) → openingOf i (after (calls.restore strict s) x) ≡ note (restoredEvent s i) b
 
 -- says what holds of one stream after the list
 pub record Agrees (i : ℕ) (cs : List Step) (x : Machine) : Type 0 where
@@ -69,27 +70,29 @@ pub record Agrees (i : ℕ) (cs : List Step) (x : Machine) : Type 0 where
   pub rises : Rises (streamAt (run cs x .hda) i .consumed) (pendingOf i (run cs x)) (streamAt (run cs x .hda) i .submitted)
   -- nothing lost, nothing doubled: restored positions and then flagged ends are, in order, those retired and then those pending
   pub exact : bookOf i cs x .ends ≡ bookOf i cs x .retired ++ bookOf i cs x .pending
-  -- a transfer fails for one of document 01's reasons, or because 4,352 are pending at a flagged end
+  -- a transfer fails for one of document 01's reasons alone
   pub founded : Failures isFounded (allEvents i cs x) (openingOf i x)
 
 -- no restore is accepted in the list
 abbrev pub NotRestored : Call → Machine → Type 0
-NotRestored c x = (s : List ℕ) → c ≡ calls.restore s → Accepts s x → ⊥
+NotRestored c x = (strict : Bool) (s : List ℕ) → c ≡ calls.restore strict s → Accepts strict s x → ⊥
 
 abbrev pub NoRestore : List Step → Machine → Type 0
 NoRestore [] x = Unit {0}
 NoRestore (c ∷ cs) x = NotRestored (c .call) (handed c x) × NoRestore cs (after (c .call) (handed c x))
 
--- positions are 4 apart; the limit never stops a transfer: 4,352 are never pending, and a transfer fails for one of the other reasons alone
+-- positions are 4 apart, and so that the list is not crowded; the limit never stops a transfer: where one fails the limit does not hold
 pub record Spaced (i : ℕ) (cs : List Step) (x : Machine) : Type 0 where
   pub apart : FourApart (pendingOf i (run cs x))
-  pub never : Few (allEvents i cs x) (openingOf i x)
-  pub otherwise : Failures isUnlimited (allEvents i cs x) (openingOf i x)
+  pub uncrowded : uncrowdedOf (streamAt (run cs x .hda) i) (partOf listSize i (run cs x .lists)) ≡ true
+  pub never : Failures isUnlimited (allEvents i cs x) (openingOf i x)
 
+-- With no restore 4,352 are never pending. A restored list may have as many, until the first position update retires what was heard.
 pub record Demand3 : Type 0 where
   pub opens : (i : ℕ) → i < streams → Opens i
   pub agrees : (i : ℕ) → i < streams → (cs : List Step) (x : Machine) → Starts x → Agrees i cs x
-  pub spaced : (i : ℕ) → i < streams → (cs : List Step) (microphone : Bool) (h : Host) (lists queues memory : List ℕ) → listSize * streams ≤ length lists
+  pub spaced : (i : ℕ) → i < streams → (cs : List Step) (x : Machine) → Starts x → Spaced i cs x
+  pub few : (i : ℕ) → i < streams → (cs : List Step) (microphone : Bool) (h : Host) (lists queues memory : List ℕ) → listSize * streams ≤ length lists
       → capacity * streams ≤ length queues
       → NoRestore cs (made microphone h lists queues memory)
-      → Spaced i cs (made microphone h lists queues memory)
+      → Few (allEvents i cs (made microphone h lists queues memory)) (openingOf i (made microphone h lists queues memory))

@@ -4,7 +4,7 @@ use mathlib.Core.Path.{_≡_}
 use mathlib.Core.Bool.{Bool, true, false, cond}
 use mathlib.Core.List.{List, [], _∷_}
 use lib.Dec.{eqb}
-use lib.ListN.{length}
+use lib.ListN.{length, take}
 use Rattle.word.specs.Value.{Bytes}
 use Rattle.word.specs.Place.{wordAt}
 use Rattle.format.specs.declared.Format.the-variants.{Unsupported}
@@ -23,6 +23,10 @@ use Rattle.device.specs.declared.Hda.{Hda}
 use Rattle.device.specs.Devices.{streamAt}
 use Rattle.device.specs.Machines.{Machine}
 use Rattle.serve.specs.Serve.{Turns, runs, turnAt}
+use Rattle.record.specs.Typed.{TypedDevice}
+use Rattle.snapshot.specs.Saves.{saveOf}
+use Rattle.restore.specs.Restores.{numberOf}
+use Rattle.restore.specs.Returns.{Formats, Restorable}
 use Rattle.calls.specs.Calls as calls
 use Rattle.calls.specs.Calls.{after}
 use Rattle.book.specs.Book.{Book, Event, reset, restored, moved, updated, failed, refused}
@@ -95,6 +99,11 @@ pub record Corollaries : Type 0 where
       → Shows i (after (calls.advance nanos) x .hda)
   -- an opening that the host refuses in a turn is the book's event of that name, and all of the turn
   pub declined : (i downstream nanos : ℕ) (x : Machine) → Declined i x → turnEvents downstream nanos i x ≡ refused ∷ []
+  -- Nothing that such a device saves is refused with 20 (request T-09), whatever host end and spaces the save is handed, and whatever device takes it; so a saved state is taken again exactly where its
+  -- formats are supported.
+  pub saves : (cs : List Step) (x : Machine) → Starts x → TypedDevice (run cs x .hda) → (h₀ : Host) (q₀ : ℕ) (into : List ℕ)
+      → let r = saveOf (run cs x .hda) h₀ (run cs x .lists) q₀ into in r .saved .number ≡ 0 → (d : Hda) (h : Host) → numberOf true (take (r .saved .count) (r .into)) d h ≡ 20 → ⊥
+  pub restorable : (cs : List Step) (x : Machine) → Starts x → Formats (run cs x .hda) → Restorable true (run cs x .hda) (run cs x .lists)
   -- With no restore accepted before or in the list, submitted is at most a full queue and the largest downstream count ahead of consumed: 16,384 bytes, a transfer
   -- that fails included. What the host holds at that time cannot stand there: a pull takes frames out of the queue before the next turn moves consumed.
   pub near : (i : ℕ) → i < streams → (cs : List Step) (microphone : Bool) (h : Host) (lists queues memory : List ℕ) → listSize * streams ≤ length lists

@@ -14,7 +14,7 @@ use Rattle.codec.specs.declared.Codec.{Codec}
 use Rattle.positions.specs.Positions.{positionsOf}
 use Rattle.stream.specs.declared.Stream.{Stream}
 use Rattle.stream.specs.declared.Cyclic.{Cyclic}
-use Rattle.stream.specs.Streams.{listSize}
+use Rattle.stream.specs.Streams.{listSize, uncrowdedOf}
 use Rattle.stream.specs.Box.{captures}
 use Rattle.plan.specs.Plans.{readyOf}
 use Rattle.pieces.specs.Pieces.{State, stateOf, pieceOf}
@@ -169,14 +169,15 @@ writeEvents offset bytes i x =
     let p = ports (writtenOf (x .hda) offset bytes) (x .host) in
     controllerEvents old p ++ settleEvents old i (flushedOf (controlledOf old p))
 
--- ---- restore, where it is accepted: the counts and positions of the state
+-- ---- restore, where it is accepted: the counts and positions of the state, of a list that is crowded and not refused none (request T-09)
 abbrev pub restoredEvent : List ℕ → ℕ → Event
 restoredEvent s i =
     let t = record-loads.streamAt (placeOf s i) s in
-    restored (t .submitted) (t .consumed) (positionsOf (t .pending) (drop (placeOf s i + 34) s)) (t .descriptor) (t .offset)
+    let list = drop (placeOf s i + 34) s in
+    restored (t .submitted) (t .consumed) (cond (uncrowdedOf t list) (positionsOf (t .pending) list) []) (t .descriptor) (t .offset)
 
-unfoldable pub restoreEvents : List ℕ → ℕ → Machine → List Event
-restoreEvents s i x = onlyIf (eqb (restore.numberOf s (x .hda) (x .host)) 0) (restoredEvent s i ∷ [])
+unfoldable pub restoreEvents : Bool → List ℕ → ℕ → Machine → List Event
+restoreEvents strict s i x = onlyIf (eqb (restore.numberOf strict s (x .hda) (x .host)) 0) (restoredEvent s i ∷ [])
 
 -- ---- every call; one that its check refuses does nothing
 unfoldable pub eventsOf : ℕ → calls.Call → Machine → List Event
@@ -195,4 +196,4 @@ eventsOf i (calls.playbackFails fails) x = []
 eventsOf i (calls.captureFails fails) x = []
 eventsOf i (calls.downstream n) x = []
 eventsOf i (calls.save into) x = []
-eventsOf i (calls.restore state) x = onlyIf (eqb (checkMachine x) 0) (restoreEvents state i x)
+eventsOf i (calls.restore strict state) x = onlyIf (eqb (checkMachine x) 0) (restoreEvents strict state i x)

@@ -36,12 +36,12 @@ isReason a index offset submitted = anyOf (reasonsOf a index offset submitted)
 unfoldable pub isLimit : Attempt → ℕ → ℕ → ℕ → ℕ → Bool
 isLimit a index offset submitted pending = endsEntry a index offset submitted && (entryFlagged a index && leb limit pending)
 
--- a reason holds, and a reason or the limit does, by the book as it then was
-abbrev pub isUnlimited : Attempt → Book → Bool
-isUnlimited a b = isReason a (b .index) (b .offset) (b .submitted)
-
+-- a reason holds, and the limit does not, by the book as it then was
 abbrev pub isFounded : Attempt → Book → Bool
-isFounded a b = isUnlimited a b || isLimit a (b .index) (b .offset) (b .submitted) (length (b .pending))
+isFounded a b = isReason a (b .index) (b .offset) (b .submitted)
+
+abbrev pub isUnlimited : Attempt → Book → Bool
+isUnlimited a b = not (isLimit a (b .index) (b .offset) (b .submitted) (length (b .pending)))
 
 -- a test holds of each failed transfer, by the book as it then was
 abbrev pub Tested : (Attempt → Book → Bool) → Event → Book → Type 0

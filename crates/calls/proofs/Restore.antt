@@ -1,6 +1,7 @@
--- `restore` leaves a valid machine, where the state's bytes are bytes. Assumes nothing.
+-- A restore of either kind leaves a valid machine, where the state's bytes are bytes. Assumes nothing.
 use Prim.Native.Nat.{ℕ, _≤_}
 use mathlib.Core.Path.{_≡_}
+use mathlib.Core.Bool.{Bool}
 use mathlib.Core.List.{List}
 use native.Mathlib.Omega.{arith}
 use borrow.Author.Tests.{eqb-true}
@@ -27,24 +28,24 @@ module _ (s : List ℕ) (typed : Bytes s) where
   block-file : 680 ≤ length s → File (blockAt 262 s)
   block-file long = record { sized = length-part 256 262 s (omega arith); bytes = bytes-take 256 (drop 262 s) (bytes-drop 262 s typed) }
 
-  module _ (d : Hda) (h : Host) (l : List ℕ) (q : ℕ) (file : File (d .regs)) where
-    accepted-file : numberOf s d h ≡ 0 → File (acceptedOf s d h l .answer .hda .regs)
+  module _ (strict : Bool) (d : Hda) (h : Host) (l : List ℕ) (q : ℕ) (file : File (d .regs)) where
+    accepted-file : numberOf strict s d h ≡ 0 → File (acceptedOf strict s d h l .answer .hda .regs)
     unfolding finishOf answerOf restoredDevice
     accepted-file e =
-        let long : 680 ≤ length s = taken-long s (d .microphone) (d .config) (number-taken s d h e) in
+        let long : 680 ≤ length s = taken-long strict s (d .microphone) (d .config) (number-taken strict s d h e) in
         update-file _ _ _ (file-store 4 walclk _ (omega arith) (block-file long))
 
     -- accepted, or refused by the state or by the check
-    restored-file : File (restoreOf s d h l q .answer .hda .regs)
+    restored-file : File (restoreOf strict s d h l q .answer .hda .regs)
     unfolding restoreOf restoreStep answerOf
     restored-file =
         let Q : Restored → Type 0 = λ r. File (r .answer .hda .regs) in
         by-cond Q (eqb (checkOf d h l q) 0) _ _
-        (λ _. by-cond Q (eqb (numberOf s d h) 0) _ _ (λ e. accepted-file (eqb-true (numberOf s d h) 0 e)) (λ _. file))
+        (λ _. by-cond Q (eqb (numberOf strict s d h) 0) _ _ (λ e. accepted-file (eqb-true (numberOf strict s d h) 0 e)) (λ _. file))
         (λ _. file)
 
-pub restore-stands : (x : Machine) → Stands x → (state : List ℕ) → Bytes state
-    → Stands (withRestored x (restoreOf state (x .hda) (x .host) (x .lists) (length (x .queues))))
-restore-stands x s state typed =
-    check-stands _ (restored-valid state (x .hda) (x .host) (x .lists) (length (x .queues)) (stands-check x s))
-    (restored-file state typed (x .hda) (x .host) (x .lists) (length (x .queues)) (s .holds .file))
+pub restore-stands : (x : Machine) → Stands x → (strict : Bool) (state : List ℕ) → Bytes state
+    → Stands (withRestored x (restoreOf strict state (x .hda) (x .host) (x .lists) (length (x .queues))))
+restore-stands x s strict state typed =
+    check-stands _ (restored-valid strict state (x .hda) (x .host) (x .lists) (length (x .queues)) (stands-check x s))
+    (restored-file state typed strict (x .hda) (x .host) (x .lists) (length (x .queues)) (s .holds .file))

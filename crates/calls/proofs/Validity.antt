@@ -55,7 +55,7 @@ after-stands (playbackFails fails) t x s = with-host x _ (x .queues) (playback-v
 after-stands (captureFails fails) t x s = with-host x _ (x .queues) (capture-valid (x .host) (s .holds .host) (length (x .queues)) fails) refl s
 after-stands (downstream n) t x s = with-host x _ (x .queues) (downstream-valid (x .host) (s .holds .host) (length (x .queues)) n) refl s
 after-stands (save into) t x s = s
-after-stands (restore state) t x s = restore-stands x s state t
+after-stands (restore strict state) t x s = restore-stands x s strict state t
 
 pub after-valid : (c : Call) → Typed c → (x : Machine) → Valid x → Valid (after c x)
 after-valid c t x v = valid (after c x) (after-stands c t x (stands x v))

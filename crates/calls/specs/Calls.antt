@@ -39,8 +39,8 @@ pub data Call : Type 0 where
   downstream : ℕ → Call
   -- the space lent for the state
   save : List ℕ → Call
-  -- the state
-  restore : List ℕ → Call
+  -- whether crowded lists are refused, or else emptied (request T-09), and the state
+  restore : Bool → List ℕ → Call
 
 -- the machine that a call leaves
 abbrev pub leftOf : Done → Machine
@@ -74,7 +74,7 @@ after (playbackFails fails) x = withHost x (playbackFailsOf (x .host) (length (x
 after (captureFails fails) x = withHost x (captureFailsOf (x .host) (length (x .queues)) fails .host) (x .queues)
 after (downstream n) x = withHost x (downstreamOf (x .host) (length (x .queues)) n .host) (x .queues)
 after (save into) x = x
-after (restore state) x = withRestored x (restoreOf state (x .hda) (x .host) (x .lists) (length (x .queues)))
+after (restore strict state) x = withRestored x (restoreOf strict state (x .hda) (x .host) (x .lists) (length (x .queues)))
 
 -- what the types say of the bytes that a call writes to the registers, of frames, and of a state
 abbrev pub Typed : Call → Type 0
@@ -93,7 +93,7 @@ Typed (playbackFails fails) = Unit {0}
 Typed (captureFails fails) = Unit {0}
 Typed (downstream n) = Unit {0}
 Typed (save into) = Unit {0}
-Typed (restore state) = Bytes state
+Typed (restore strict state) = Bytes state
 
 -- A machine that passes the check of every call (document 01, "Numbers returned", below the table), and whose registers are what their type says: 256 bytes.
 pub record Valid (x : Machine) : Type 0 where

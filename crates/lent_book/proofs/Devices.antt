@@ -52,8 +52,9 @@ use Rattle.record.specs.Loads.{clockAt}
 use Rattle.record.proofs.Places.{row-at}
 use Rattle.parse.specs.States.{placeOf}
 use Rattle.restore.specs.Restores as restores
-use Rattle.restore.specs.Restores.{streamOf, opensOf, laterOf, restoredDevice, restoredHost}
+use Rattle.restore.specs.Restores.{streamOf, listOf, restoredStream, opensOf, laterOf, restoredDevice, restoredHost}
 use Rattle.restore.proofs.Places.{fits-long, read-room}
+use Rattle.restore.proofs.Streams.{kept-alike}
 use Rattle.host_record.specs.Typed.{TypedHost}
 use Rattle.lent_book.proofs.Turns.{Counts, with-queue-typed, open-stream-typed}
 
@@ -261,6 +262,13 @@ module _ (s : List ℕ) (typed : Bytes s) (fits : restores.Fits s) where
       let room = read-room s i at (streamOf s i) refl refl fits few in
       record { offset = word-bound 4 (at + 2) s (omega (arith, room)) typed; submitted = word-bound 8 (at + 6) s (omega (arith, room)) typed }
 
+  -- and as it is put in force
+  kept-counts : (strict : Bool) (i : ℕ) → i < streams → Counts (restoredStream strict s i)
+  kept-counts strict i few =
+      let k = kept-alike strict (streamOf s i) (listOf s i) in
+      let c = stream-counts i few in
+      record { offset = rw (k .offset) (c .offset); submitted = rw (k .submitted) (c .submitted) }
+
   later-fits : (c : Clock) → Fits 8 (c .ticks) → Fits 8 (laterOf c (clockAt s) .ticks)
   unfolding laterOf
   later-fits c t =
@@ -268,15 +276,15 @@ module _ (s : List ℕ) (typed : Bytes s) (fits : restores.Fits s) where
       by-cond (λ (o : Clock). Fits 8 (o .ticks)) (ltb (c .ticks) (o .ticks) || (eqb (c .ticks) (o .ticks) && ltb (c .fraction) (o .fraction))) o c
       (λ _. word-bound 8 662 s (omega (arith, long)) typed) (λ _. t)
 
-  pub restored-formed : (d : Hda) → Formed d → Formed (restoredDevice s d)
+  pub restored-formed : (strict : Bool) (d : Hda) → Formed d → Formed (restoredDevice strict s d)
   unfolding restoredDevice
-  restored-formed d f =
+  restored-formed strict d f =
       record {
         config = length-part 256 6 s (omega (arith, long));
         codec = load-well-formed 518 s (omega (arith, long)) typed;
         ticks = later-fits (d .clock) (f .ticks);
-        count = length-row (streamOf s) streams 0;
-        each = λ i few. rw (row-at stream.freshOf (streamOf s) streams 0 i few, zero-add i) (stream-counts i few);
+        count = length-row (restoredStream strict s) streams 0;
+        each = λ i few. rw (row-at stream.freshOf (restoredStream strict s) streams 0 i few, zero-add i) (kept-counts strict i few);
       }
 
 pub restored-typed : (s : List ℕ) (microphone : Bool) (h : Host) → TypedHost h → TypedHost (restoredHost s microphone h)

@@ -1,7 +1,7 @@
 -- A caller finds a message's address and data in the device record that the call leaves, whatever bytes it lent. Assumes nothing.
 use Prim.Native.Nat.{ℕ, _+_}
 use mathlib.Core.Path.{_≡_, refl}
-use mathlib.Core.Bool.{true}
+use mathlib.Core.Bool.{Bool, true}
 use mathlib.Core.List.{List}
 use native.Mathlib.Omega.{arith}
 use lib.ListN.{length}
@@ -65,10 +65,10 @@ module _ (x : Lent) (bytes : Lends x) (e : isMachine (x .device) (x .host) ≡ t
   unfolding after calls.after
   pin-message node = by-call (calls.pinChange node) tt (pinOf node) refl (pin-placed node (machineAt x))
 
--- hda_restore is lent no memory
-pub restore-message : (x : Lent) → Lends x → isMachine (x .device) (x .host) ≡ true → (state : List ℕ) → Bytes state → (address value : ℕ)
-    → restoredBy state (machineAt x) .answer .msi ≡ Message address value → Holds (after (on (calls.restore state)) x .device) address value
+-- hda_restore and hda_restore_emptied are lent no memory
+pub restore-message : (x : Lent) → Lends x → isMachine (x .device) (x .host) ≡ true → (strict : Bool) (state : List ℕ) → Bytes state → (address value : ℕ)
+    → restoredBy strict state (machineAt x) .answer .msi ≡ Message address value → Holds (after (on (calls.restore strict state)) x .device) address value
 unfolding after calls.after
-restore-message x bytes e state h =
+restore-message x bytes e strict state h =
     let y = lent (x .device) (x .host) (x .lists) (x .queues) none in
-    by-call y (record { device = bytes .device; host = bytes .host; queues = bytes .queues; memory = λ _. omega arith }) e (calls.restore state) h (restoredBy state) refl (restore-placed state (machineAt y))
+    by-call y (record { device = bytes .device; host = bytes .host; queues = bytes .queues; memory = λ _. omega arith }) e (calls.restore strict state) h (restoredBy strict state) refl (restore-placed strict state (machineAt y))

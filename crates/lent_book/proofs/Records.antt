@@ -120,9 +120,9 @@ module _ (x : Lent) (e : isMachine (x .device) (x .host) ≡ true) (t : TypedMac
   unfolding lents.after after ends.pullOf
   pull-meets into k = let y = after (calls.pull into) (machineAt x) in rw hosted (host-meets y k (x .device) (x .lists) (y .queues) (x .memory) there refl refl refl refl)
 
-  restore-meets : (state : List ℕ) → TypedMachine (after (calls.restore state) (machineAt x)) → Meets (lents.after (lents.on (calls.restore state)) x) (after (calls.restore state) (machineAt x))
+  restore-meets : (strict : Bool) (state : List ℕ) → TypedMachine (after (calls.restore strict state) (machineAt x)) → Meets (lents.after (lents.on (calls.restore strict state)) x) (after (calls.restore strict state) (machineAt x))
   unfolding lents.after after behind
-  restore-meets state k = rw e (whole-meets (after (calls.restore state) (machineAt x)) k)
+  restore-meets strict state k = rw e (whole-meets (after (calls.restore strict state) (machineAt x)) k)
 
   pub left-meets : (c : calls.Call) → calls.Typed c → Meets (lents.after (lents.on c) x) (after c (machineAt x))
   unfolding lents.after after
@@ -142,7 +142,7 @@ module _ (x : Lent) (e : isMachine (x .device) (x .host) ≡ true) (t : TypedMac
   left-meets (calls.captureFails fails) c = setting-meets (λ h n. captureFailsOf h n fails) (after-typed (calls.captureFails fails) c (machineAt x) t)
   left-meets (calls.downstream n) c = setting-meets (λ h k. downstreamOf h k n) (after-typed (calls.downstream n) c (machineAt x) t)
   left-meets (calls.save into) c = record { same = refl; there = there }
-  left-meets (calls.restore state) c = restore-meets state (after-typed (calls.restore state) c (machineAt x) t)
+  left-meets (calls.restore strict state) c = restore-meets strict state (after-typed (calls.restore strict state) c (machineAt x) t)
 
 -- ---- bytes that are none
 pub record Stays (x y : Lent) : Type 0 where
@@ -171,4 +171,4 @@ module _ (x : Lent) (e : isMachine (x .device) (x .host) ≡ false) where
   left-stays (calls.captureFails fails) = record { device = refl; lists = refl }
   left-stays (calls.downstream n) = record { device = refl; lists = refl }
   left-stays (calls.save into) = record { device = refl; lists = refl }
-  left-stays (calls.restore state) = record { device = rw e; lists = rw e }
+  left-stays (calls.restore strict state) = record { device = rw e; lists = rw e }

@@ -1,12 +1,12 @@
 -- Demand 3 on bytes, from demand 3's own steps: every call on bytes is the call on the machine in them. Assumes nothing.
-use Prim.Native.Nat.{ℕ, _+_, _*_, _≤_, _<_}
+use Prim.Native.Nat.{ℕ, _+_, _*_, _/_, _%_, _^_, _≤_, _<_}
 use mathlib.Core.Path.{_≡_, refl, sym, ap, subst, _∙_}
 use mathlib.Core.Bool.{Bool, true, false, cond, true≢false}
 use mathlib.Core.List.{List, [], _∷_, _++_}
 use native.Mathlib.Omega.{arith}
 use borrow.Author.Tests.{eqb-false, eq-eqb, le-ltb}
 use lib.Dec.{eqb}
-use lib.ListN.{length, length-replicate, getD-replicate}
+use lib.ListN.{length, take, length-replicate, getD-replicate}
 use Rattle.word.specs.Value.{Bytes}
 use Rattle.word.specs.Place.{wordAt}
 use Rattle.word.specs.Parts.{partOf}
@@ -28,7 +28,9 @@ use Rattle.host.proofs.Checks.{checked}
 use Rattle.device.proofs.Checks.{room, passed, passes}
 use Rattle.device.proofs.Facts.{fresh-valid}
 use Rattle.calls.proofs.Pci.{fresh-word}
+use Rattle.restore.specs.Restores.{numberOf}
 use Rattle.restore.proofs.Theorems.{restored-valid}
+use Rattle.restore.proofs.Returns.{saved-uncrowded}
 use Rattle.hda.specs.Calls as hda
 use Rattle.record.specs.Layout.{deviceSize}
 use Rattle.record.specs.Devices.{deviceBytes}
@@ -50,7 +52,7 @@ use Rattle.book.specs.Lists.{openingOf}
 use Rattle.book.specs.Claim.{Rises, Few, Accepts}
 use Rattle.book.specs.Corollaries.{Once, Shows, Serves}
 use Rattle.book.specs.Claim as book-claim
-use Rattle.book.proofs.Ghosts.{Ghost, see, sees, sees-append, sees-book, few-seen, founded-seen, few-unlimited}
+use Rattle.book.proofs.Ghosts.{Ghost, see, sees, sees-append, sees-book, few-seen, failures-seen}
 use Rattle.book.proofs.Orders.{rises-all, rises-same, four-apart}
 use Rattle.book.proofs.Tied.{Tied, tied-reset}
 use Rattle.book.proofs.Machines.{Held, part-size}
@@ -59,12 +61,12 @@ use Rattle.book.proofs.Consequences.{once-each}
 use Rattle.book.proofs.Shown as shown
 use Rattle.book.proofs.Theorem.{opened, new-begins, restored-begins, fresh-at, fresh-count, fresh-opens, resumed-opens}
 use Rattle.lent_book.specs.Typed.{TypedMachine}
-use Rattle.lent_calls.specs.Calls.{Call, new, hostNew, on, withDevice, after}
+use Rattle.lent_calls.specs.Calls.{Call, new, hostNew, on, callOf, withDevice, after}
 use Rattle.lent_book.specs.Lists.{Typed, Step, handed, run, streamIn, pendingIn, openingIn, newReply, eventsOf, allEvents, bookOf}
 use Rattle.lent_book.specs.Claim.{Accepted, Lends, Starts, made, restored, Opens, Agrees, NoRestore, Spaced}
 use Rattle.lent_book.specs.Corollaries.{registersIn, ShowsIn}
 use Rattle.lent_book.proofs.Typed.{after-typed, after-sound}
-use Rattle.lent_book.proofs.Numbers.{accepted, accepting}
+use Rattle.lent_book.proofs.Numbers.{accepted, accepting, crowded, written}
 use Rattle.lent_book.proofs.Records.{Ready, bytes-ready, stored-ready, machine-typed, Meets, left-meets, left-stays}
 
 -- ---- what stands in the bytes
@@ -157,11 +159,11 @@ new-machine microphone x e =
     rw (new-done microphone x e .0, device-stored d (fresh-typed microphone))
 
 -- an accepted restore leaves a valid device
-restored-sound : (s : List ℕ) (x : Machine) → Accepts s x → let y = calls.after (calls.restore s) x in devices.validOf (y .hda) (y .lists) ≡ true
+restored-sound : (strict : Bool) (s : List ℕ) (x : Machine) → Accepts strict s x → let y = calls.after (calls.restore strict s) x in devices.validOf (y .hda) (y .lists) ≡ true
 unfolding calls.after
-restored-sound s x e =
-    let y = calls.after (calls.restore s) x in
-    passed (y .hda) (y .host) (y .lists) (length (x .queues)) (restored-valid s (x .hda) (x .host) (x .lists) (length (x .queues)) (e .0)) .device
+restored-sound strict s x e =
+    let y = calls.after (calls.restore strict s) x in
+    passed (y .hda) (y .host) (y .lists) (length (x .queues)) (restored-valid strict s (x .hda) (x .host) (x .lists) (length (x .queues)) (e .0)) .device
 
 -- ---- a list
 module _ (F : Type 0) (i : ℕ) (own : i < streams) where
@@ -176,7 +178,7 @@ module _ (F : Type 0) (i : ℕ) (own : i < streams) where
 
   -- a function of a call
   module _ (c : calls.Call) (x : Lent) (a : Ghost) (host : Bytes (x .host)) (queues : Bytes (x .queues)) (memory : Bytes (x .memory)) (typed : calls.Typed c)
-      (none : F → (s : List ℕ) → c ≡ calls.restore s → Accepted s x → ⊥) (s : Stood a x) where
+      (none : F → (strict : Bool) (s : List ℕ) → c ≡ calls.restore strict s → Accepted strict s x → ⊥) (s : Stood a x) where
     left-stood : (b : Bool) → isMachine (x .device) (x .host) ≡ b → Stood (sees (cond b (events.eventsOf i c (machineAt x)) []) a) (after (on c) x)
     left-stood true e =
         let t = machine-typed x (s .ready) (machine-host (x .device) (x .host) e) host queues memory in
@@ -184,7 +186,7 @@ module _ (F : Type 0) (i : ℕ) (own : i < streams) where
         let m = left-meets x e t c typed in
         let a′ = sees (events.eventsOf i c (machineAt x)) a in
         let h : Held F i (y .hda .streams) (y .lists) a′ =
-        after-held F i own c (machineAt x) a (λ f state same accepts. none f state same (accepting state x e accepts)) (t .host .count) (s .held) in
+        after-held F i own c (machineAt x) a (λ f strict state same accepts. none f strict state same (accepting strict state x e accepts)) (t .host .count) (s .held) in
         record {
           ready = stored-ready (after (on c) x .device) (m .there) y (ap (λ (z : Machine). z .hda) (m .same)) (after-typed c typed (machineAt x) t);
           sound = subst (λ (z : Machine). devices.validOf (z .hda) (z .lists) ≡ true) (sym (m .same)) (after-sound c typed (machineAt x) t (s .sound));
@@ -219,12 +221,12 @@ module _ (F : Type 0) (i : ℕ) (own : i < streams) where
   host-stood x a s = stays a x (after hostNew x) refl refl s
 
   on-stood : (c : calls.Call) (x : Lent) (a : Ghost) → Bytes (x .host) → Bytes (x .queues) → Bytes (x .memory) → calls.Typed c
-      → (F → (s : List ℕ) → on c ≡ on (calls.restore s) → Accepted s x → ⊥) → Stood a x → Stood (sees (eventsOf i (on c) x) a) (after (on c) x)
+      → (F → (strict : Bool) (s : List ℕ) → on c ≡ on (calls.restore strict s) → Accepted strict s x → ⊥) → Stood a x → Stood (sees (eventsOf i (on c) x) a) (after (on c) x)
   unfolding eventsOf after
   on-stood c x a host queues memory typed none s =
-      left-stood c x a host queues memory typed (λ f state same. none f state (ap (λ (k : calls.Call). on k) same)) s (isMachine (x .device) (x .host)) refl
+      left-stood c x a host queues memory typed (λ f strict state same. none f strict state (ap (λ (k : calls.Call). on k) same)) s (isMachine (x .device) (x .host)) refl
 
-  step-stood : (c : Call) (x : Lent) (a : Ghost) → Bytes (x .host) → Bytes (x .queues) → Bytes (x .memory) → Typed c → (F → (s : List ℕ) → c ≡ on (calls.restore s) → Accepted s x → ⊥)
+  step-stood : (c : Call) (x : Lent) (a : Ghost) → Bytes (x .host) → Bytes (x .queues) → Bytes (x .memory) → Typed c → (F → (strict : Bool) (s : List ℕ) → c ≡ on (calls.restore strict s) → Accepted strict s x → ⊥)
       → Stood a x → Stood (sees (eventsOf i c x) a) (after c x)
   step-stood (new microphone) x a host queues memory typed none s = new-stood microphone x a s
   step-stood hostNew x a host queues memory typed none s = host-stood x a s
@@ -252,46 +254,46 @@ module _ (F : Type 0) (i : ℕ) (own : i < streams) where
             (new-begins F i own microphone (hostAt (x .host)) (x .lists) (x .queues) (x .memory) (d .1));
       }
 
--- an accepted hda_restore
-module _ (s : List ℕ) (x : Lent) (typed : Bytes s) (h : Lends x) (z : Accepted s x) where
-  e : (isMachine (x .device) (x .host) ≡ true) × Accepts s (machineAt x)
-  e = accepted s x z
+-- an accepted restore of either kind
+module _ (strict : Bool) (s : List ℕ) (x : Lent) (typed : Bytes s) (h : Lends x) (z : Accepted strict s x) where
+  e : (isMachine (x .device) (x .host) ≡ true) × Accepts strict s (machineAt x)
+  e = accepted strict s x z
 
   abbrev resumes : Lent
-  resumes = after (on (calls.restore s)) x
+  resumes = after (on (calls.restore strict s)) x
 
   found : TypedMachine (machineAt x)
   found =
       let b = bytes-ready (x .device) (machine-device (x .device) (x .host) (e .0)) (h .device) in
       machine-typed x b (machine-host (x .device) (x .host) (e .0)) (h .host) (h .queues) (h .memory)
 
-  resumed-meets : Meets resumes (calls.after (calls.restore s) (machineAt x))
+  resumed-meets : Meets resumes (calls.after (calls.restore strict s) (machineAt x))
   unfolding after
-  resumed-meets = left-meets x (e .0) found (calls.restore s) typed
+  resumed-meets = left-meets x (e .0) found (calls.restore strict s) typed
 
   resumed-stood : (i : ℕ) (own : i < streams) → Stood ⊥ i own (opened i (machineAt resumes)) resumes
   resumed-stood i own =
       let m = resumed-meets in
-      let y = calls.after (calls.restore s) (machineAt x) in
+      let y = calls.after (calls.restore strict s) (machineAt x) in
       record {
-        ready = stored-ready (resumes .device) (m .there) y (ap (λ (z : Machine). z .hda) (m .same)) (after-typed (calls.restore s) typed (machineAt x) found);
-        sound = subst (λ (z : Machine). devices.validOf (z .hda) (z .lists) ≡ true) (sym (m .same)) (restored-sound s (machineAt x) (e .1));
-        held = subst (λ (z : Machine). Held ⊥ i (z .hda .streams) (z .lists) (opened i z)) (sym (m .same)) (restored-begins i own s (machineAt x) (e .1));
+        ready = stored-ready (resumes .device) (m .there) y (ap (λ (z : Machine). z .hda) (m .same)) (after-typed (calls.restore strict s) typed (machineAt x) found);
+        sound = subst (λ (z : Machine). devices.validOf (z .hda) (z .lists) ≡ true) (sym (m .same)) (restored-sound strict s (machineAt x) (e .1));
+        held = subst (λ (z : Machine). Held ⊥ i (z .hda .streams) (z .lists) (opened i z)) (sym (m .same)) (restored-begins i own strict s (machineAt x) (e .1));
       }
 
   pub resumed-bytes : (i : ℕ) → i < streams → (b : Book) → openingIn i resumes ≡ note (restoredEvent s i) b
-  resumed-bytes i own b = opening-in i own resumes ∙ ap (openingOf i) (resumed-meets .same) ∙ resumed-opens i own s (machineAt x) (e .1) b
+  resumed-bytes i own b = opening-in i own resumes ∙ ap (openingOf i) (resumed-meets .same) ∙ resumed-opens i own strict s (machineAt x) (e .1) b
 
 fresh-bytes : (i : ℕ) → i < streams → (microphone : Bool) (x : Lent) → newReply microphone x ≡ 0 → openingIn i (after (new microphone) x) ≡ book.made
 fresh-bytes i own microphone x e =
     opening-in i own (after (new microphone) x) ∙ ap (openingOf i) (new-machine microphone x e) ∙ fresh-opens i own microphone (hostAt (x .host)) (x .lists) (x .queues) (x .memory)
 
 pub opens : (i : ℕ) → i < streams → Opens i
-opens i own = record { begins = new-begun; fresh = fresh-bytes i own; resumed = λ s x typed h e. resumed-bytes s x typed h e i own }
+opens i own = record { begins = new-begun; fresh = fresh-bytes i own; resumed = λ strict s x typed h e. resumed-bytes strict s x typed h e i own }
 
 started : (i : ℕ) (own : i < streams) (x : Lent) → Starts x → Stood ⊥ i own (opened i (machineAt x)) x
 started i own x (made microphone y e) = new-begins-bytes ⊥ i own microphone y e
-started i own x (restored s y typed h e) = resumed-stood s y typed h e i own
+started i own x (restored strict s y typed h e) = resumed-stood strict s y typed h e i own
 
 -- ---- the claim
 -- tied by what stands in the bytes
@@ -320,7 +322,7 @@ agrees i own cs x start =
       heard = v .heard;
       rises = rises-all _ (pendingIn i (run cs x)) _ (v .heard) (v .rises);
       exact = subst (λ (b : Book). b .ends ≡ b .retired ++ b .pending) same (t .exact);
-      founded = subst (Failures isFounded es) (sym (opening-in i own x)) (founded-seen es a (t .founded));
+      founded = subst (Failures isFounded es) (sym (opening-in i own x)) (failures-seen es a (t .founded) .0);
     }
 
 -- the retired positions rise strictly and none is above consumed
@@ -336,6 +338,30 @@ pub once : (i : ℕ) → i < streams → (cs : List Step) (x : Lent) → Starts 
 once i own cs x start =
     let a = agrees i own cs x start in
     once-each (bookOf i cs x) (past i own cs x start) (rises-same (a .consumed) (a .pending) (a .submitted) (a .rises)) (a .exact)
+
+-- positions are 4 apart, no list is crowded, and the limit stops no transfer
+pub spaced : (i : ℕ) → i < streams → (cs : List Step) (x : Lent) → Starts x → Spaced i cs x
+spaced i own cs x start =
+    let es = allEvents i cs x in
+    let a = opened i (machineAt x) in
+    let t = tied i own (run cs x) ⊥ (sees es a) (run-stood ⊥ i own cs x a (λ f. absurd f) (started i own x start)) in
+    record {
+      apart = four-apart _ _ (pendingIn i (run cs x)) (t .spaced);
+      uncrowded = t .spaced;
+      never = subst (Failures isUnlimited es) (sym (opening-in i own x)) (failures-seen es a (t .founded) .1);
+    }
+
+-- so nothing that is saved is refused with 20
+pub saves : (cs : List Step) (x : Lent) → Starts x → (c : Step) (into : List ℕ) → let r = callOf (on (calls.save into)) (handed c (run cs x)) in
+    r .reply % 256 ≡ 0 → (y : Lent) → callOf (on (calls.restore true (take (r .reply / 2 ^ 32) (r .into)))) y .reply % 256 ≡ 20 → ⊥
+saves cs x start c into low y z =
+    let first : 0 < streams = omega arith in
+    let s = run-stood ⊥ 0 first cs x (opened 0 (machineAt x)) (λ f. absurd f) (started 0 first x start) in
+    let here = handed c (run cs x) in
+    let w = written into here low in
+    saved-uncrowded (deviceAt (here .device)) (hostAt (here .host)) (here .lists) (length (here .queues)) (s .ready .typed)
+    (λ i own. ap (λ (t : Stream). stream.uncrowdedOf t (partOf listSize i (here .lists))) (same-stream i own here) ∙ spaced i own cs x start .uncrowded) into (w .done) true
+    (deviceAt (y .device)) (hostAt (y .host)) (subst (λ (b : List ℕ). numberOf true b (deviceAt (y .device)) (hostAt (y .host)) ≡ 20) (rw (w .count, w .bytes)) (crowded true _ y z))
 
 -- with no restore
 module _ (i : ℕ) (own : i < streams) (cs : List Step) (microphone : Bool) (x : Lent) (e : newReply microphone x ≡ 0) (none : NoRestore cs (after (new microphone) x)) where
@@ -356,15 +382,8 @@ module _ (i : ℕ) (own : i < streams) (cs : List Step) (microphone : Bool) (x :
       let empty = ap (λ (b : Book). length (b .pending)) (sym (opening-in i own first) ∙ fresh-bytes i own microphone x e) in
       few-seen (allEvents i cs first) begun (omega (arith, empty)) (alone .never tt)
 
-  pub spaced : Spaced i cs first
-  spaced =
-      let es = allEvents i cs first in
-      record {
-        apart = four-apart _ _ (pendingIn i (run cs first)) (alone .spaced tt);
-        never = subst (Few es) (sym (opening-in i own first)) few;
-        otherwise = subst (Failures isUnlimited es) (sym (opening-in i own first))
-            (few-unlimited es (openingOf i (machineAt first)) few (founded-seen es begun (alone .founded)));
-      }
+  pub few-ever : Few (allEvents i cs first) (openingIn i first)
+  few-ever = subst (Few (allEvents i cs first)) (sym (opening-in i own first)) few
 
   pub near : let s = streamIn i (run cs first) in s .submitted ≤ s .consumed + 16384
   near = alone .ahead tt

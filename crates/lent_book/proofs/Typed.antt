@@ -163,18 +163,18 @@ module _ (x : Machine) (k : Kept x) where
   unfolding pauseOf answerOf
   pause-formed paused = by-cond Formed (eqb (checkMachine x) 0) _ _ (λ _. paused-formed (x .hda) (k .device) paused) (λ _. k .device)
 
-  restore-kept : (s : List ℕ) → Bytes s → Kept (calls.withRestored x (restoreOf s (x .hda) (x .host) (x .lists) (length (x .queues))))
+  restore-kept : (strict : Bool) (s : List ℕ) → Bytes s → Kept (calls.withRestored x (restoreOf strict s (x .hda) (x .host) (x .lists) (length (x .queues))))
   unfolding restoreOf restoreStep answerOf finishOf
-  restore-kept s typed =
+  restore-kept strict s typed =
       let d = x .hda in
       let h = x .host in
       let P : Restored → Type 0 = λ r. Kept (calls.withRestored x r) in
       by-cond P (eqb (checkMachine x) 0) _ _
-      (λ _. by-cond P (eqb (restores.numberOf s d h) 0) (acceptedOf s d h (x .lists)) _
+      (λ _. by-cond P (eqb (restores.numberOf strict s d h) 0) (acceptedOf strict s d h (x .lists)) _
       (λ z.
-      let fits = taken-fits s (d .microphone) (d .config) (number-taken s d h (eqb-true (restores.numberOf s d h) 0 z)) in
+      let fits = taken-fits strict s (d .microphone) (d .config) (number-taken strict s d h (eqb-true (restores.numberOf strict s d h) 0 z)) in
       record {
-        device = finish-formed (restores.restoredDevice s d) (restored-formed s typed fits d (k .device)) 0 (restores.restoredHost s (d .microphone) h);
+        device = finish-formed (restores.restoredDevice strict s d) (restored-formed s typed fits strict d (k .device)) 0 (restores.restoredHost s (d .microphone) h);
         host = restored-typed s (d .microphone) h (k .host);
         queues = k .queues;
         memory = k .memory;
@@ -254,7 +254,7 @@ after-kept (calls.playbackFails fails) t x k = with-host x k _ (x .queues) (play
 after-kept (calls.captureFails fails) t x k = with-host x k _ (x .queues) (capture-typed (x .host) (k .host) (length (x .queues)) fails) (k .queues)
 after-kept (calls.downstream n) t x k = with-host x k _ (x .queues) (downstream-typed (x .host) (k .host) (length (x .queues)) n) (k .queues)
 after-kept (calls.save into) t x k = k
-after-kept (calls.restore state) t x k = restore-kept x k state t
+after-kept (calls.restore strict state) t x k = restore-kept x k strict state t
 
 -- a device that passes the check has the other widths too
 stream-typed : (s : Stream) (l : List ℕ) → validOf s l ≡ true → Counts s → TypedStream s
@@ -308,7 +308,7 @@ module _ (x : Machine) (e : eqb (checkMachine x) 0 ≡ false) where
   refused-same (calls.captureFails fails) = refl
   refused-same (calls.downstream n) = refl
   refused-same (calls.save into) = refl
-  refused-same (calls.restore state) = rw e
+  refused-same (calls.restore strict state) = rw e
 
 kept : (x : Machine) → TypedMachine x → Kept x
 kept x t =
@@ -357,7 +357,7 @@ refused-lists x e (calls.playbackFails fails) = refl
 refused-lists x e (calls.captureFails fails) = refl
 refused-lists x e (calls.downstream n) = refl
 refused-lists x e (calls.save into) = refl
-refused-lists x e (calls.restore state) = rw e
+refused-lists x e (calls.restore strict state) = rw e
 
 -- a valid device stays valid, whatever the host end and the queues are
 pub after-sound : (c : Call) → calls.Typed c → (x : Machine) → TypedMachine x → devices.validOf (x .hda) (x .lists) ≡ true

@@ -1,8 +1,9 @@
 -- What follows from demand 3 on bytes: no completion dropped or reported twice, what the position register then shows, and how far a stream is ahead of what is heard.
-use Prim.Native.Nat.{ℕ, _+_, _≤_, _<_}
+use Prim.Native.Nat.{ℕ, _+_, _/_, _%_, _^_, _≤_, _<_}
 use mathlib.Core.Path.{_≡_}
-use mathlib.Core.Bool.{Bool}
+use mathlib.Core.Bool.{Bool, true}
 use mathlib.Core.List.{List}
+use lib.ListN.{take}
 use Rattle.word.specs.Place.{wordAt}
 use Rattle.stream.specs.Box.{streams}
 use Rattle.queue.specs.Queues.{capacity}
@@ -12,7 +13,7 @@ use Rattle.turn.specs.Engines.{positionOf}
 use Rattle.record.specs.Loads.{blockAt}
 use Rattle.calls.specs.Calls as calls
 use Rattle.port_device.specs.Calls.{Lent}
-use Rattle.lent_calls.specs.Calls.{new, on, after}
+use Rattle.lent_calls.specs.Calls.{new, on, callOf, after}
 use Rattle.book.specs.Corollaries.{Once, Serves}
 use Rattle.lent_book.specs.Lists.{Step, handed, run, streamIn, newReply, eventsOf, bookOf}
 use Rattle.lent_book.specs.Claim.{Starts, NoRestore}
@@ -30,6 +31,9 @@ pub record CorollariesBytes : Type 0 where
   -- an hda_advance that served the stream, after any list
   pub advanced : (i : ℕ) → i < streams → (cs : List Step) (x : Lent) → Starts x → (c : Step) (nanos : ℕ) → c .call ≡ on (calls.advance nanos)
       → Serves (eventsOf i (c .call) (handed c (run cs x))) → ShowsIn i (after (c .call) (handed c (run cs x)))
+  -- what hda_save writes is never refused with 20 by hda_restore, whatever bytes that is handed beside (request T-09)
+  pub saves : (cs : List Step) (x : Lent) → Starts x → (c : Step) (into : List ℕ) → let r = callOf (on (calls.save into)) (handed c (run cs x)) in
+      r .reply % 256 ≡ 0 → (y : Lent) → callOf (on (calls.restore true (take (r .reply / 2 ^ 32) (r .into)))) y .reply % 256 ≡ 20 → ⊥
   -- a full queue and the largest downstream count
   pub near : (i : ℕ) → i < streams → (cs : List Step) (microphone : Bool) (x : Lent) → newReply microphone x ≡ 0 → NoRestore cs (after (new microphone) x)
       → let s = streamIn i (run cs (after (new microphone) x)) in s .submitted ≤ s .consumed + (capacity + maxDownstream)

@@ -25,7 +25,7 @@ on-no-further (calls.playbackFails fails) x = refl
 on-no-further (calls.captureFails fails) x = refl
 on-no-further (calls.downstream bytes) x = refl
 on-no-further (calls.save into) x = refl
-on-no-further (calls.restore state) x = refl
+on-no-further (calls.restore strict state) x = refl
 
 pub looks-no-further : (c : Call) (x : Lent) → callOf c x ≡ callOf c (handedTo c x)
 looks-no-further (new microphone) x = refl
@@ -101,6 +101,6 @@ save-stands : (into : List ℕ) (r : ℕ) (x : Lent) (shows : List ℕ) → show
 unfolding after
 save-stands into r x shows e = sym (ap (leftBy (on (calls.save into)) x) e)
 
-restore-stands : (state : List ℕ) (r : ℕ) (x : Lent) (device host lists queues : List ℕ) → returned r (lent device host lists queues none) ≡ callOf (on (calls.restore state)) x → after (on (calls.restore state)) x ≡ lent device host lists queues (x .memory)
+restore-stands : (strict : Bool) (state : List ℕ) (r : ℕ) (x : Lent) (device host lists queues : List ℕ) → returned r (lent device host lists queues none) ≡ callOf (on (calls.restore strict state)) x → after (on (calls.restore strict state)) x ≡ lent device host lists queues (x .memory)
 unfolding after
-restore-stands state r x device host lists queues e = sym (ap (leftBy (on (calls.restore state)) x) e)
+restore-stands strict state r x device host lists queues e = sym (ap (leftBy (on (calls.restore strict state)) x) e)

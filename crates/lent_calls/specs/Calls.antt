@@ -36,7 +36,7 @@ OutcomeOn (calls.playbackFails fails) = Kept
 OutcomeOn (calls.captureFails fails) = Kept
 OutcomeOn (calls.downstream n) = Kept
 OutcomeOn (calls.save into) = Shown
-OutcomeOn (calls.restore state) = Returned
+OutcomeOn (calls.restore strict state) = Returned
 
 abbrev pub Outcome : Call → Type 0
 Outcome (new microphone) = Made
@@ -60,7 +60,7 @@ callOn (calls.playbackFails fails) x = setting (λ h n. playbackFailsOf h n fail
 callOn (calls.captureFails fails) x = setting (λ h n. captureFailsOf h n fails) (x .host) (length (x .queues))
 callOn (calls.downstream bytes) x = setting (λ h n. downstreamOf h n bytes) (x .host) (length (x .queues))
 callOn (calls.save into) x = saveOf (x .device) (x .host) (x .lists) (length (x .queues)) into
-callOn (calls.restore state) x = behind (restoredBy state) (lent (x .device) (x .host) (x .lists) (x .queues) none)
+callOn (calls.restore strict state) x = behind (restoredBy strict state) (lent (x .device) (x .host) (x .lists) (x .queues) none)
 
 abbrev pub callOf : (c : Call) → Lent → Outcome c
 callOf (new microphone) x = newOf microphone (x .device) (length (x .lists)) (length (x .queues))
@@ -84,7 +84,7 @@ handedOn (calls.playbackFails fails) x = lent none (x .host) none (x .queues) no
 handedOn (calls.captureFails fails) x = lent none (x .host) none (x .queues) none
 handedOn (calls.downstream bytes) x = lent none (x .host) none (x .queues) none
 handedOn (calls.save into) x = lent (x .device) (x .host) (x .lists) (x .queues) none
-handedOn (calls.restore state) x = lent (x .device) (x .host) (x .lists) (x .queues) none
+handedOn (calls.restore strict state) x = lent (x .device) (x .host) (x .lists) (x .queues) none
 
 abbrev pub handedTo : Call → Lent → Lent
 handedTo (new microphone) x = lent (x .device) none (x .lists) (x .queues) none
@@ -117,7 +117,7 @@ leftOn (calls.playbackFails fails) x r = withHost x (r .host) (x .queues)
 leftOn (calls.captureFails fails) x r = withHost x (r .host) (x .queues)
 leftOn (calls.downstream bytes) x r = withHost x (r .host) (x .queues)
 leftOn (calls.save into) x r = x
-leftOn (calls.restore state) x r = withMemory (r .lent) (x .memory)
+leftOn (calls.restore strict state) x r = withMemory (r .lent) (x .memory)
 
 abbrev pub leftBy : (c : Call) → Lent → Outcome c → Lent
 leftBy (new microphone) x r = withDevice x (r .device)

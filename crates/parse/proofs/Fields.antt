@@ -19,3 +19,10 @@ module _ (s : List ℕ) (at n : ℕ) {A : Type 0} (P : A → Type 0) (short : A)
   unfolding thenOf fieldOf
   field-cases there cut =
       by-cond (λ (t : Took). P (thenOf t short rest)) (leb (at + n) (length s)) _ _ (λ e. there (leb-true (at + n) (length s) e)) (λ e. cut)
+
+-- the same run, followed by two readings
+pub run-both : (s : List ℕ) (at n : ℕ) {A : Type 0} (P : A → A → Type 0) (short : A) (rest : ℕ → ℕ → A) (other : ℕ → ℕ → A)
+    → (at + n ≤ length s → P (rest at (at + n)) (other at (at + n))) → P short short → P (thenOf (runOf s at n) short rest) (thenOf (runOf s at n) short other)
+unfolding thenOf runOf
+run-both s at n P short rest other there cut =
+    by-cond (λ (t : Took). P (thenOf t short rest) (thenOf t short other)) (leb (at + n) (length s)) _ _ (λ e. there (leb-true (at + n) (length s) e)) (λ e. cut)

@@ -17,12 +17,12 @@ use Rattle.word.proofs.Each.{each-step, each-stop}
 use Rattle.format.specs.Format.{formatOf, numberOf}
 use Rattle.positions.specs.Positions.{positionsOf, risesOf}
 use Rattle.stream.specs.declared.Stream.{Stream}
-use Rattle.stream.specs.Streams.{places, validOf}
+use Rattle.stream.specs.Streams.{places, validOf, uncrowdedOf}
 use Rattle.registers.specs.Places.{ctl, fmt, byteAt}
 use Rattle.record.specs.Layout.{numbersSize}
 use Rattle.record.specs.Loads.{streamAt}
 use Rattle.parse.specs.declared.Step.{Step}
-use Rattle.parse.specs.States.{listNumber, formatNumber, countsNumber, streamNumber, stepOut, steppedOf, stepAt, goesOn, placeOf}
+use Rattle.parse.specs.States.{listNumber, formatNumber, countsNumber, crowdNumber, streamNumber, stepOut, steppedOf, stepAt, goesOn, placeOf}
 use Rattle.parse.proofs.Choices.{both-pass, holds, fails}
 use Rattle.parse.proofs.Fields.{run-cases}
 
@@ -63,10 +63,22 @@ module _ (s : List ℕ) (i base : ℕ) {raw : ℕ} (place : base ≡ 390 + 32 * 
   pub format-set : idle ≡ false → {number : ℕ} → number ≡ numberOf (formatOf raw) → number ≡ formatNumber s i
   format-set h d = d ∙ if-false 0 (numberOf (formatOf raw)) h refl ∙ format-same
 
+-- a list that is there: its spacing decides. The code reads it in the part of the state from `at` to the end
+module _ (s : List ℕ) (t : Stream) (at : ℕ) {free : Bool} (e : free ≡ uncrowdedOf t (take (length s - at) (drop at s))) where
+  crowd-same : cond free 0 20 ≡ crowdNumber s t at
+  unfolding crowdNumber
+  crowd-same = rw (e, take-all (length s - at) (drop at s) (omega (arith, length-drop at s)))
+
+  pub crowd-free : free ≡ true → 0 ≡ crowdNumber s t at
+  crowd-free h = if-true 0 20 h refl ∙ crowd-same
+
+  pub crowd-close : free ≡ false → 20 ≡ crowdNumber s t at
+  crowd-close h = if-false 0 20 h refl ∙ crowd-same
+
 -- what the number of a stream with record `t` makes of its step
-module _ (s : List ℕ) (i at next : ℕ) {t : Stream} {number : ℕ} (loaded : t ≡ streamAt at s) (e : number ≡ streamNumber s t next i) where
+module _ (strict : Bool) (s : List ℕ) (i at next : ℕ) {t : Stream} {number : ℕ} (loaded : t ≡ streamAt at s) (e : number ≡ streamNumber strict s t next i) where
   abbrev Stepped : ℕ → Stream → Type 0
-  Stepped end u = stepOut number end ≡ steppedOf (streamNumber s u next i) at (next + 8 * u .pending)
+  Stepped end u = stepOut number end ≡ steppedOf (streamNumber strict s u next i) at (next + 8 * u .pending)
 
   pub step-refused : (number ≡ 0 → ⊥) → Stepped at (streamAt at s)
   step-refused h = subst (Stepped at) loaded (rw (← e, ne-eqb number 0 h))
@@ -81,7 +93,7 @@ pub record Listed (s : List ℕ) (t : Stream) (at : ℕ) : Type 0 where
   pub order : risesOf (t .consumed) (positionsOf (t .pending) (drop at s)) (t .submitted) ≡ true
 
 module _ (s : List ℕ) (t : Stream) (at : ℕ) where
-  listed : listNumber s t at ≡ 0 → Listed s t at
+  pub listed : listNumber s t at ≡ 0 → Listed s t at
   unfolding listNumber
   listed z =
       let count = fails _ _ 6 (lit< tt) z in
@@ -92,17 +104,27 @@ module _ (s : List ℕ) (t : Stream) (at : ℕ) where
         order = holds _ 0 7 (lit< tt) (room .1) .0;
       }
 
-  module _ (i : ℕ) (z : streamNumber s t at i ≡ 0) where
+  module _ (i : ℕ) (strict : Bool) (z : streamNumber strict s t at i ≡ 0) where
+    abbrev last : ℕ
+    last = cond (eqb (countsNumber t) 0) (cond strict (crowdNumber s t at) 0) (countsNumber t)
+
     abbrev rest : ℕ
-    rest = cond (eqb (formatNumber s i) 0) (countsNumber t) (formatNumber s i)
+    rest = cond (eqb (formatNumber s i) 0) last (formatNumber s i)
 
     of-list : Listed s t at
     unfolding streamNumber
     of-list = listed (both-pass (listNumber s t at) rest z .0)
 
-    of-rest : (formatNumber s i ≡ 0) × (countsNumber t ≡ 0)
+    of-rest : (formatNumber s i ≡ 0) × (last ≡ 0)
     unfolding streamNumber
-    of-rest = both-pass (formatNumber s i) (countsNumber t) (both-pass (listNumber s t at) rest z .1)
+    of-rest = both-pass (formatNumber s i) last (both-pass (listNumber s t at) rest z .1)
+
+    of-last : (countsNumber t ≡ 0) × (cond strict (crowdNumber s t at) 0 ≡ 0)
+    of-last = both-pass (countsNumber t) (cond strict (crowdNumber s t at) 0) (of-rest .1)
+
+    pub stream-uncrowded : strict ≡ true → uncrowdedOf t (drop at s) ≡ true
+    unfolding crowdNumber
+    stream-uncrowded on = holds _ 0 20 (lit< tt) (rw on at (of-last .1)) .0
 
     pub stream-fits : at ≤ length s → at + 8 * t .pending ≤ length s
     stream-fits h = omega (arith, of-list .room)
@@ -112,21 +134,21 @@ module _ (s : List ℕ) (t : Stream) (at : ℕ) where
 
     pub stream-valid : validOf t (drop at s) ≡ true
     unfolding validOf countsNumber
-    stream-valid = rw (le-leb (t .pending) places (of-list .count), of-list .order) (holds _ 0 8 (lit< tt) (of-rest .1) .0)
+    stream-valid = rw (le-leb (t .pending) places (of-list .count), of-list .order) (holds _ 0 8 (lit< tt) (of-last .0) .0)
 
 -- a step that is taken: the stream's numbers and positions are there, and the next part begins behind them
-pub record Taken (s : List ℕ) (i at : ℕ) : Type 0 where
+pub record Taken (strict : Bool) (s : List ℕ) (i at : ℕ) : Type 0 where
   pub there : at + numbersSize ≤ length s
-  pub number : streamNumber s (streamAt at s) (at + numbersSize) i ≡ 0
+  pub number : streamNumber strict s (streamAt at s) (at + numbersSize) i ≡ 0
 
-module _ (s : List ℕ) (i at : ℕ) where
+module _ (strict : Bool) (s : List ℕ) (i at : ℕ) where
   abbrev behind : ℕ
   behind = at + (numbersSize + 8 * streamAt at s .pending)
 
   abbrev Passed : Step → Type 0
-  Passed w = w .number ≡ 0 → Taken s i at × (w ≡ stepOut 0 behind)
+  Passed w = w .number ≡ 0 → Taken strict s i at × (w ≡ stepOut 0 behind)
 
-  pub step-taken : Passed (stepAt s i (stepOut 0 at))
+  pub step-taken : Passed (stepAt strict s i (stepOut 0 at))
   unfolding stepAt
   step-taken =
       let place : at + numbersSize + 8 * streamAt at s .pending ≡ behind = omega arith in
@@ -135,24 +157,24 @@ module _ (s : List ℕ) (i at : ℕ) where
       (λ z. absurd (omega (arith, z)))
 
 -- the loop: a stream that is taken, and one that is not; `r` is the code's step
-module _ (s : List ℕ) (count i n at : ℕ) (r : Step) (left : i + n ≡ count) (more : i < count) (e : r ≡ stepAt s i (stepOut 0 at)) where
-  pub loop-stop : (r .number ≡ 0 → ⊥) → eachOf goesOn (stepAt s) n i (stepOut 0 at) ≡ r
-  loop-stop h = each-stop goesOn (stepAt s) count i n (stepOut 0 at) r left more e (ne-eqb (r .number) 0 h)
+module _ (strict : Bool) (s : List ℕ) (count i n at : ℕ) (r : Step) (left : i + n ≡ count) (more : i < count) (e : r ≡ stepAt strict s i (stepOut 0 at)) where
+  pub loop-stop : (r .number ≡ 0 → ⊥) → eachOf goesOn (stepAt strict s) n i (stepOut 0 at) ≡ r
+  loop-stop h = each-stop goesOn (stepAt strict s) count i n (stepOut 0 at) r left more e (ne-eqb (r .number) 0 h)
 
   module _ (z : r .number ≡ 0) where
     pub loop-later : at ≤ r .next
-    loop-later = let k = step-taken s i at (ap (λ (w : Step). w .number) (sym e) ∙ z) in omega (arith, ap (λ (w : Step). w .next) (e ∙ k .1))
+    loop-later = let k = step-taken strict s i at (ap (λ (w : Step). w .number) (sym e) ∙ z) in omega (arith, ap (λ (w : Step). w .next) (e ∙ k .1))
 
-    pub loop-step : (k : ℕ) × (i + 1 + k ≡ count) × (eachOf goesOn (stepAt s) n i (stepOut 0 at) ≡ eachOf goesOn (stepAt s) k (i + 1) (stepOut 0 (r .next)))
+    pub loop-step : (k : ℕ) × (i + 1 + k ≡ count) × (eachOf goesOn (stepAt strict s) n i (stepOut 0 at) ≡ eachOf goesOn (stepAt strict s) k (i + 1) (stepOut 0 (r .next)))
     loop-step =
-        each-step goesOn (stepAt s) count i n (stepOut 0 at) (stepOut 0 (r .next)) left more (ap (λ (number : ℕ). stepOut number (r .next)) (sym z) ∙ e) refl
+        each-step goesOn (stepAt strict s) count i n (stepOut 0 at) (stepOut 0 (r .next)) left more (ap (λ (number : ℕ). stepOut number (r .next)) (sym z) ∙ e) refl
 
 -- all streams taken: each stands behind the one before it
 go-on : (b : Bool) (y : Step) (rest : Step → Step) → goesOn y ≡ b → further b y rest .number ≡ 0 → (y .number ≡ 0) × (further b y rest ≡ rest y)
 go-on true y rest e z = (eqb-true (y .number) 0 e, refl)
 go-on false y rest e z = absurd (eqb-false (y .number) 0 e z)
 
-place-next : (s : List ℕ) (i : ℕ) → placeOf s (i + 1) ≡ placeOf s i + (numbersSize + 8 * streamAt (placeOf s i) s .pending)
+pub place-next : (s : List ℕ) (i : ℕ) → placeOf s (i + 1) ≡ placeOf s i + (numbersSize + 8 * streamAt (placeOf s i) s .pending)
 unfolding placeOf
 place-next s i = rw add-one
 
@@ -161,17 +183,17 @@ first-others : (P : ℕ → Type 0) (i n : ℕ) → P i → ((k : ℕ) → k < n
 first-others P i n first others zero h = subst P (omega arith) first
 first-others P i n first others (suc k) h = subst P (omega arith) (others k (omega arith))
 
-abbrev pub Placed : List ℕ → ℕ → Type 0
-Placed s i = Taken s i (placeOf s i)
+abbrev pub Placed : Bool → List ℕ → ℕ → Type 0
+Placed strict s i = Taken strict s i (placeOf s i)
 
-pub all-taken : (s : List ℕ) (n i : ℕ) → eachOf goesOn (stepAt s) n i (stepOut 0 (placeOf s i)) .number ≡ 0
-    → (eachOf goesOn (stepAt s) n i (stepOut 0 (placeOf s i)) .next ≡ placeOf s (i + n)) × ((k : ℕ) → k < n → Placed s (i + k))
+pub all-taken : (strict : Bool) (s : List ℕ) (n i : ℕ) → eachOf goesOn (stepAt strict s) n i (stepOut 0 (placeOf s i)) .number ≡ 0
+    → (eachOf goesOn (stepAt strict s) n i (stepOut 0 (placeOf s i)) .next ≡ placeOf s (i + n)) × ((k : ℕ) → k < n → Placed strict s (i + k))
 unfolding eachOf
-all-taken s zero i z = (ap (placeOf s) (omega arith), λ k h. absurd (omega arith))
-all-taken s (suc n) i z =
-    let y = stepAt s i (stepOut 0 (placeOf s i)) in
-    let on = go-on (goesOn y) y (eachOf goesOn (stepAt s) n (i + 1)) refl z in
-    let t = step-taken s i (placeOf s i) (on .0) in
-    let all = on .1 ∙ ap (eachOf goesOn (stepAt s) n (i + 1)) (t .1 ∙ ap (stepOut 0) (sym (place-next s i))) in
-    let others = all-taken s n (i + 1) (ap (λ (w : Step). w .number) (sym all) ∙ z) in
-    (ap (λ (w : Step). w .next) all ∙ others .0 ∙ ap (placeOf s) (omega arith), first-others (Placed s) i n (t .0) (others .1))
+all-taken strict s zero i z = (ap (placeOf s) (omega arith), λ k h. absurd (omega arith))
+all-taken strict s (suc n) i z =
+    let y = stepAt strict s i (stepOut 0 (placeOf s i)) in
+    let on = go-on (goesOn y) y (eachOf goesOn (stepAt strict s) n (i + 1)) refl z in
+    let t = step-taken strict s i (placeOf s i) (on .0) in
+    let all = on .1 ∙ ap (eachOf goesOn (stepAt strict s) n (i + 1)) (t .1 ∙ ap (stepOut 0) (sym (place-next s i))) in
+    let others = all-taken strict s n (i + 1) (ap (λ (w : Step). w .number) (sym all) ∙ z) in
+    (ap (λ (w : Step). w .next) all ∙ others .0 ∙ ap (placeOf s) (omega arith), first-others (Placed strict s) i n (t .0) (others .1))

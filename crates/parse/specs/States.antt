@@ -11,7 +11,7 @@ use Rattle.clock.specs.Billionths.{billion}
 use Rattle.format.specs.Format.{formatOf, numberOf}
 use Rattle.positions.specs.Positions.{positionsOf, risesOf}
 use Rattle.stream.specs.declared.Stream.{Stream}
-use Rattle.stream.specs.Streams.{places}
+use Rattle.stream.specs.Streams.{places, uncrowdedOf}
 use Rattle.stream.specs.Box.{streams}
 use Rattle.registers.specs.Places.{ctl, fmt, byteAt, has}
 use Rattle.reader.specs.declared.Got.the-variants.{Short}
@@ -64,9 +64,16 @@ formatNumber s i =
 unfoldable pub countsNumber : Stream → ℕ
 countsNumber t = cond (leb (t .descriptor) 255 && (leb (t .consumed) (t .submitted) && ltb (t .fraction) (8193 * 1_000_000_000))) 0 8
 
-unfoldable pub streamNumber : List ℕ → Stream → ℕ → ℕ → ℕ
-streamNumber s t at i =
-    cond (eqb (listNumber s t at) 0) (cond (eqb (formatNumber s i) 0) (countsNumber t) (formatNumber s i)) (listNumber s t at)
+-- the spacing of the positions (request T-09)
+unfoldable pub crowdNumber : List ℕ → Stream → ℕ → ℕ
+crowdNumber s t at = cond (uncrowdedOf t (drop at s)) 0 20
+
+-- a stream's tests; a crowded list is refused where `strict` says so, and only then
+unfoldable pub streamNumber : Bool → List ℕ → Stream → ℕ → ℕ → ℕ
+streamNumber strict s t at i =
+    cond (eqb (listNumber s t at) 0)
+    (cond (eqb (formatNumber s i) 0) (cond (eqb (countsNumber t) 0) (cond strict (crowdNumber s t at) 0) (countsNumber t)) (formatNumber s i))
+    (listNumber s t at)
 
 -- the number so far, and where the next part begins; a refused stream's place stays
 abbrev pub stepOut : ℕ → ℕ → Step
@@ -75,16 +82,16 @@ stepOut number next = record { number = number; next = next }
 abbrev pub steppedOf : ℕ → ℕ → ℕ → Step
 steppedOf number at next = stepOut number (cond (eqb number 0) next at)
 
-unfoldable pub stepAt : List ℕ → ℕ → Step → Step
-stepAt s i w =
+unfoldable pub stepAt : Bool → List ℕ → ℕ → Step → Step
+stepAt strict s i w =
     thenOf (runOf s (w .next) numbersSize) (stepOut cut (w .next))
-    (λ start next. let t = streamAt (w .next) s in steppedOf (streamNumber s t next i) (w .next) (next + 8 * t .pending))
+    (λ start next. let t = streamAt (w .next) s in steppedOf (streamNumber strict s t next i) (w .next) (next + 8 * t .pending))
 
 abbrev pub goesOn : Step → Bool
 goesOn w = eqb (w .number) 0
 
-unfoldable pub streamsStep : List ℕ → Step
-streamsStep s = eachOf goesOn (stepAt s) streams 0 (stepOut 0 headSize)
+unfoldable pub streamsStep : Bool → List ℕ → Step
+streamsStep strict s = eachOf goesOn (stepAt strict s) streams 0 (stepOut 0 headSize)
 
 -- where stream i's numbers stand: behind the positions of the one before it
 unfoldable pub placeOf : List ℕ → ℕ → ℕ
@@ -98,8 +105,8 @@ lastNumber s config end =
     && (leb (byteAt s 5) 1 && (ltb (wordAt 8 670 s) billion && (leb (wordAt 2 678 s) 255 && eqb (wordAt 4 6 s) (wordAt 4 0 config))))) 0 9
 
 -- all tests but those of the openings
-unfoldable pub stateNumber : List ℕ → Bool → List ℕ → ℕ
-stateNumber s microphone config =
+unfoldable pub stateNumber : Bool → List ℕ → Bool → List ℕ → ℕ
+stateNumber strict s microphone config =
     let head = headNumber s microphone in
-    let step = streamsStep s in
+    let step = streamsStep strict s in
     cond (eqb head 0) (cond (eqb (step .number) 0) (lastNumber s config (step .next)) (step .number)) head

@@ -6,11 +6,11 @@ use reader::Got;
 use stream::STREAMS;
 use stream::Stream;
 ghost use mathlib.Core.Path.{_≡_};
-ghost use Prim.Native.Nat.{_+_, _≤_, _<_};
+ghost use Prim.Native.Nat.{_+_, _*_, _≤_, _<_};
 ghost use lib.ListN.{length};
 ghost use Rattle.stream.specs.Box.{streams};
 ghost use Rattle.format.specs.Format.{formatOf, numberOf};
-ghost use Rattle.parse.specs.States.{converterNumber, timesNumber, filesNumber, ownNumber, headNumber, listNumber, formatNumber, countsNumber, streamNumber, stepOut, stepAt, streamsStep, lastNumber, stateNumber};
+ghost use Rattle.parse.specs.States.{converterNumber, timesNumber, filesNumber, ownNumber, headNumber, listNumber, formatNumber, countsNumber, crowdNumber, streamNumber, stepOut, stepAt, streamsStep, lastNumber, stateNumber};
 
 // The number of a stream's part of a state, and where the next part begins.
 pub struct Step {
@@ -148,10 +148,18 @@ fn counts_number(s: Stream) -> u32
     if valid { 0 } else { 8 }
 }
 
-// A stream whose numbers were there and whose positions begin at `at`.
-fn stream_number(state: &[u8], s: Stream, at: usize, index: usize) -> u32
+// The spacing of a stream's positions, from `at` on.
+fn crowd_number(state: &[u8], s: Stream, at: usize) -> u32
+    requires { ⌜ at + 8 * s .pending ≤ length (now state) ⌝ }
+    ensures { λ r. ⌜ r ≡ crowdNumber (now (state .entry)) s at ⌝ }
+{
+    if s.uncrowded(&state[at..]) { 0 } else { 20 }
+}
+
+// A stream whose numbers were there and whose positions begin at `at`; a crowded list is refused where `strict` says so.
+fn stream_number(strict: bool, state: &[u8], s: Stream, at: usize, index: usize) -> u32
     requires { ⌜ (index < streams) × ((680 ≤ at) × (at ≤ length (now state))) ⌝ }
-    ensures { λ r. ⌜ r ≡ streamNumber (now (state .entry)) s at index ⌝ }
+    ensures { λ r. ⌜ r ≡ streamNumber strict (now (state .entry)) s at index ⌝ }
 {
     let list = list_number(state, s, at);
     if list != 0 {
@@ -161,20 +169,27 @@ fn stream_number(state: &[u8], s: Stream, at: usize, index: usize) -> u32
     if format != 0 {
         return format;
     }
-    counts_number(s)
+    let counts = counts_number(s);
+    if counts != 0 {
+        return counts;
+    }
+    if strict {
+        return crowd_number(state, s, at);
+    }
+    0
 }
 
 // Stream `index`, whose part begins at `at`.
-fn step_at(state: &[u8], at: usize, index: usize) -> Step
+fn step_at(strict: bool, state: &[u8], at: usize, index: usize) -> Step
     requires { ⌜ (index < streams) × (680 ≤ at) ⌝ }
-    ensures { λ r. ⌜ r ≡ stepAt (now (state .entry)) index (stepOut 0 at) ⌝ }
+    ensures { λ r. ⌜ r ≡ stepAt strict (now (state .entry)) index (stepOut 0 at) ⌝ }
 {
     let t = reader::run(state, at, record::NUMBERS);
     let got = t.got;
     match got {
         Got::Value(_) => {
             let s = record::load_stream(state, at);
-            let number = stream_number(state, s, t.next, index);
+            let number = stream_number(strict, state, s, t.next, index);
             // The place counts only where the list was found to fit.
             if number != 0 {
                 return Step { number, next: at };
@@ -192,14 +207,14 @@ fn step_at(state: &[u8], at: usize, index: usize) -> Step
 }
 
 // Every stream in order, up to the first that is refused.
-fn streams_step(state: &[u8]) -> Step
-    ensures { λ r. ⌜ r ≡ streamsStep (now (state .entry)) ⌝ }
+fn streams_step(strict: bool, state: &[u8]) -> Step
+    ensures { λ r. ⌜ r ≡ streamsStep strict (now (state .entry)) ⌝ }
 {
     let count = STREAMS;
     let mut at = record::HEAD;
     let mut index = 0;
     while index < count {
-        let step = step_at(state, at, index);
+        let step = step_at(strict, state, at, index);
         if step.number != 0 {
             return step;
         }
@@ -226,15 +241,15 @@ fn last_number(state: &[u8], config: &Config, end: usize) -> u32
     if valid { 0 } else { 9 }
 }
 
-// All tests of a state but those of the openings.
-pub fn state_number(state: &[u8], microphone: bool, config: &Config) -> u32
-    ensures { λ r. ⌜ r ≡ stateNumber (now (state .entry)) microphone (now (config .entry)) ⌝ }
+// All tests of a state but those of the openings; `strict` refuses crowded lists.
+pub fn state_number(strict: bool, state: &[u8], microphone: bool, config: &Config) -> u32
+    ensures { λ r. ⌜ r ≡ stateNumber strict (now (state .entry)) microphone (now (config .entry)) ⌝ }
 {
     let head = head_number(state, microphone);
     if head != 0 {
         return head;
     }
-    let step = streams_step(state);
+    let step = streams_step(strict, state);
     if step.number != 0 {
         return step.number;
     }

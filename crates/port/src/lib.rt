@@ -2,7 +2,7 @@
 // crates port_device, port_reads, port_host and port_wav by its C name. Its contract is the outcome that crate lent_calls gives for that call, the very definition that demand 3 on bytes steps by; bytes
 // that a function is not handed are `none` there. A flag is any number, and all but 0 is true. The last two are handed no device and no host end, and are no calls of demand 3.
 ghost use mathlib.Core.Path.{_≡_};
-ghost use mathlib.Core.Bool.{not};
+ghost use mathlib.Core.Bool.{true, false, not};
 ghost use lib.Dec.{eqb};
 ghost use Rattle.calls.specs.Calls.{advance, read, write, barRead, barWrite, configRead, configWrite, pinChange, pause, feed, pull, playbackFails, captureFails, downstream, save, restore};
 ghost use Rattle.port_device.specs.Calls.{lent, returned, made, none};
@@ -188,9 +188,23 @@ pub extern "C" fn hda_restore(
     queues: &[u8],
     state: &[u8],
 ) -> u64
-    ensures { λ r. ⌜ returned r (lent (now (device .exit)) (now (host .exit)) (now (lists .exit)) (now (queues .entry)) none) ≡ callOf (on (restore (now (state .entry)))) (lent (now (device .entry)) (now (host .entry)) (now (lists .entry)) (now (queues .entry)) none) ⌝ }
+    ensures { λ r. ⌜ returned r (lent (now (device .exit)) (now (host .exit)) (now (lists .exit)) (now (queues .entry)) none) ≡ callOf (on (restore true (now (state .entry)))) (lent (now (device .entry)) (now (host .entry)) (now (lists .entry)) (now (queues .entry)) none) ⌝ }
 {
-    port_device::restore(device, host, lists, queues, state)
+    port_device::restore(true, device, host, lists, queues, state)
+}
+
+// The same for states with crowded lists: those lists are emptied.
+#[no_mangle]
+pub extern "C" fn hda_restore_emptied(
+    device: &mut [u8],
+    host: &mut [u8],
+    lists: &mut [u8],
+    queues: &[u8],
+    state: &[u8],
+) -> u64
+    ensures { λ r. ⌜ returned r (lent (now (device .exit)) (now (host .exit)) (now (lists .exit)) (now (queues .entry)) none) ≡ callOf (on (restore false (now (state .entry)))) (lent (now (device .entry)) (now (host .entry)) (now (lists .entry)) (now (queues .entry)) none) ⌝ }
+{
+    port_device::restore(false, device, host, lists, queues, state)
 }
 
 // Frames into the queue of the capture stream; the value returned is their count.

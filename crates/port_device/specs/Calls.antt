@@ -55,8 +55,8 @@ behind call x = cond (isMachine (x .device) (x .host)) (returnedOf (call (machin
 abbrev pub none : List ℕ
 none = []
 
-abbrev pub restoredBy : List ℕ → Machine → Done
-restoredBy state x = let r = restoreOf state (x .hda) (x .host) (x .lists) (length (x .queues)) in doneOf (r .answer) (r .lists) (x .queues) (x .memory)
+abbrev pub restoredBy : Bool → List ℕ → Machine → Done
+restoredBy strict state x = let r = restoreOf strict state (x .hda) (x .host) (x .lists) (length (x .queues)) in doneOf (r .answer) (r .lists) (x .queues) (x .memory)
 
 -- what is returned with a device record, and with both records
 pub record Made : Type 0 where

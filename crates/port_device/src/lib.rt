@@ -181,22 +181,23 @@ pub fn pin_presence_changed(
     kept(a, device)
 }
 
-// A saved state in the place of the device's own.
+// A saved state in the place of the device's own; crowded lists are refused where `strict` says so, and else emptied.
 pub fn restore(
+    strict: bool,
     device: &mut [u8],
     host: &mut [u8],
     lists: &mut [u8],
     queues: &[u8],
     state: &[u8],
 ) -> u64
-    ensures { λ r. ⌜ returned r (lent (now (device .exit)) (now (host .exit)) (now (lists .exit)) (now (queues .entry)) none) ≡ behind (restoredBy (now (state .entry))) (lent (now (device .entry)) (now (host .entry)) (now (lists .entry)) (now (queues .entry)) none) ⌝ }
+    ensures { λ r. ⌜ returned r (lent (now (device .exit)) (now (host .exit)) (now (lists .exit)) (now (queues .entry)) none) ≡ behind (restoredBy strict (now (state .entry))) (lent (now (device .entry)) (now (host .entry)) (now (lists .entry)) (now (queues .entry)) none) ⌝ }
 {
     if !reply::is_machine(device, host) {
         return reply::unreadable(lists.len(), queues.len());
     }
     let d = record::load_device(device);
     let h = host_record::load_host(host);
-    let a = restore::restore(d, h, lists, queues, state);
+    let a = restore::restore(strict, d, h, lists, queues, state);
     stored(a, device, host)
 }
 

@@ -1,16 +1,17 @@
 -- The turns of a scan: at place `i`, where `x` is read, and at the end. Assumes nothing.
-use Prim.Native.Nat.{ℕ, suc, _+_, _*_, _<_, _≤_}
+use Prim.Native.Nat.{ℕ, suc, _+_, _-_, _*_, _<_, _≤_}
 use mathlib.Core.Path.{_≡_, refl, sym, ap, _∙_}
 use mathlib.Core.List.{List, [], _∷_}
 use mathlib.Core.Bool.{Bool, true, false, _&&_, and-false}
 use native.Mathlib.Omega.{arith}
 use native.Mathlib.Numerals.{add-one}
-use borrow.Author.Tests.{leb-true, le-leb, lt-leb, lt-ltb, le-ltb}
+use borrow.Author.Tests.{leb-true, leb-false, le-leb, lt-leb, lt-ltb, le-ltb}
 use lib.Dec.{leb}
 use lib.ListN.{length, drop, drop-of-length-le}
 use lib.Seq.{drop-cons}
 use Rattle.word.specs.Place.{wordAt}
-use Rattle.positions.specs.Positions.{positionsOf, upToOf, risesOf}
+use Rattle.word.proofs.Choices.{by-test}
+use Rattle.positions.specs.Positions.{positionsOf, upToOf, risesOf, spacedFrom, spacedOf}
 use Rattle.positions.proofs.View.{length-positions, getD-positions}
 
 module _ (n : ℕ) (l : List ℕ) (i x : ℕ) (h : i < n) (ex : x ≡ wordAt 8 (8 * i) l) where
@@ -44,6 +45,24 @@ module _ (n : ℕ) (l : List ℕ) (i x : ℕ) (h : i < n) (ex : x ≡ wordAt 8 (
     unfolding risesOf
     rise-low k = ap (λ (xs : List ℕ). risesOf lo xs hi) seen ∙ rw (le-ltb lo x k)
 
+  module _ (last offset hi : ℕ) where
+    pub space-more : last + 4 ≤ x → spacedFrom last offset hi (drop i (positionsOf n l)) ≡ spacedFrom x offset hi (drop (i + 1) (positionsOf n l))
+    unfolding spacedFrom
+    space-more k = ap (spacedFrom last offset hi) seen ∙ rw (le-leb (last + 4) x k)
+
+    pub space-less : x < last + 4 → spacedFrom last offset hi (drop i (positionsOf n l)) ≡ false
+    unfolding spacedFrom
+    space-less k = ap (spacedFrom last offset hi) seen ∙ rw (lt-leb (last + 4) x k)
+
+-- the start of one that looks at neighbours, with a first position and with none
+pub space-first : (n : ℕ) (l : List ℕ) (x offset hi : ℕ) → 0 < n → x ≡ wordAt 8 (8 * 0) l
+    → spacedFrom x offset hi (drop 1 (positionsOf n l)) ≡ spacedOf offset hi (positionsOf n l)
+space-first n l x offset hi h ex = sym (ap (spacedOf offset hi) (seen n l 0 x h ex))
+
+pub space-none : (l : List ℕ) (offset hi : ℕ) → spacedOf offset hi (positionsOf 0 l) ≡ true
+unfolding positionsOf
+space-none l offset hi = refl
+
 -- the end of a scan
 module _ (n : ℕ) (l : List ℕ) (i : ℕ) (h : n ≤ i) where
   over : drop i (positionsOf n l) ≡ []
@@ -58,3 +77,13 @@ module _ (n : ℕ) (l : List ℕ) (i : ℕ) (h : n ≤ i) where
   pub rise-end : (lo hi : ℕ) → risesOf lo (drop i (positionsOf n l)) hi ≡ true
   unfolding risesOf
   rise-end lo hi = ap (λ (xs : List ℕ). risesOf lo xs hi) over
+
+  pub space-end : (last offset hi : ℕ) → spacedFrom last offset hi (drop i (positionsOf n l)) ≡ leb (last + offset) hi
+  unfolding spacedFrom
+  space-end last offset hi = ap (spacedFrom last offset hi) over
+
+-- its last test, with no sum that could wrap
+pub below : (last offset hi : ℕ) → last ≤ hi → leb offset (hi - last) ≡ leb (last + offset) hi
+below last offset hi h =
+    by-test (leb offset (hi - last)) (λ e. let k = leb-true offset (hi - last) e in e ∙ sym (le-leb (last + offset) hi (omega arith)))
+    (λ e. let k = leb-false offset (hi - last) e in e ∙ sym (lt-leb (last + offset) hi (omega arith)))

@@ -20,6 +20,16 @@ unfoldable pub risesOf : ℕ → List ℕ → ℕ → Bool
 risesOf lo [] hi = true
 risesOf lo (x ∷ xs) hi = ltb lo x && (leb x hi && risesOf x xs hi)
 
+-- neighbours 4 apart or more, and the last, with `offset` behind it, not above `hi`: what number 20 asks for (request T-09), with the stream's descriptor offset,
+-- and submitted as `hi`. With no positions there is nothing to ask; `p` stands before the others.
+unfoldable pub spacedFrom : ℕ → ℕ → ℕ → List ℕ → Bool
+spacedFrom p offset hi [] = leb (p + offset) hi
+spacedFrom p offset hi (x ∷ xs) = leb (p + 4) x && spacedFrom x offset hi xs
+
+abbrev pub spacedOf : ℕ → ℕ → List ℕ → Bool
+spacedOf offset hi [] = true
+spacedOf offset hi (x ∷ xs) = spacedFrom x offset hi xs
+
 -- the last position, or `lo` where there is none
 abbrev pub lastOf : ℕ → List ℕ → ℕ
 lastOf lo [] = lo

@@ -4,7 +4,7 @@ ghost use mathlib.Core.Path.{_≡_};
 ghost use Prim.Native.Nat.{_+_, _*_, _≤_};
 ghost use lib.ListN.{length};
 ghost use Rattle.word.specs.Place.{wordAt};
-ghost use Rattle.positions.specs.Positions.{positionsOf, risesOf, upToOf, pushOf, retireOf};
+ghost use Rattle.positions.specs.Positions.{positionsOf, risesOf, spacedOf, upToOf, pushOf, retireOf};
 
 // The position at place i.
 pub fn get(list: &[u8], i: usize) -> u64
@@ -31,6 +31,33 @@ pub fn rises(list: &[u8], n: usize, lo: u64, hi: u64) -> bool
     }
     // Of positions that rise, the last is the highest.
     (n == 0) | (last <= hi)
+}
+
+// Whether the first n positions are 4 apart or more, and the last is offset or more below hi. No sum is made, so that none can wrap.
+pub fn spaced(list: &[u8], n: usize, offset: u64, hi: u64) -> bool
+    requires { ⌜ 8 * n ≤ length (now list) ⌝ }
+    ensures { λ r. ⌜ r ≡ spacedOf offset hi (positionsOf n (now (list .entry))) ⌝ }
+{
+    if n == 0 {
+        return true;
+    }
+    let mut last = get(list, 0);
+    let mut i = 1;
+    while i < n {
+        let x = get(list, i);
+        if x < last {
+            return false;
+        }
+        if x - last < 4 {
+            return false;
+        }
+        last = x;
+        i += 1;
+    }
+    if last > hi {
+        return false;
+    }
+    offset <= hi - last
 }
 
 // How many of the first n positions, from the front, are at most c.

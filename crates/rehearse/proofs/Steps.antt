@@ -30,11 +30,11 @@ module _ (memory : List ℕ) where
   abbrev beside : Returned → Returned
   beside x = returned (x .reply) (lent (x .lent .device) (x .lent .host) (x .lent .lists) (x .lent .queues) memory)
 
-  pub restored-beside : (state device host lists queues : List ℕ) (r : ℕ) (d h l : List ℕ)
-      → returned r (lent d h l queues none) ≡ behind (restoredBy state) (lent device host lists queues none)
-      → returned r (lent d h l queues memory) ≡ behind (restoredBy state) (lent device host lists queues memory)
+  pub restored-beside : (strict : Bool) (state device host lists queues : List ℕ) (r : ℕ) (d h l : List ℕ)
+      → returned r (lent d h l queues none) ≡ behind (restoredBy strict state) (lent device host lists queues none)
+      → returned r (lent d h l queues memory) ≡ behind (restoredBy strict state) (lent device host lists queues memory)
   unfolding behind
-  restored-beside state device host lists queues r d h l e = ap beside e ∙ cond-map beside (isMachine device host) _ _
+  restored-beside strict state device host lists queues r d h l e = ap beside e ∙ cond-map beside (isMachine device host) _ _
 
 module _ (address : ℕ) (bytes memory : List ℕ) where
   pub poke-behind : length memory < address → reached 1 memory ≡ pokeOf address bytes memory

@@ -1,6 +1,6 @@
 -- The calls by their kind, on the bytes that are lent: each is what crates port_device, port_reads and port_host state of it.
 use Prim.Native.Nat.{ℕ, _-_, _%_}
-use mathlib.Core.Bool.{Bool, cond, not}
+use mathlib.Core.Bool.{Bool, true, false, cond, not}
 use mathlib.Core.List.{List}
 use lib.Dec.{eqb, ltb}
 use lib.ListN.{length}
@@ -29,7 +29,7 @@ freshOf microphone device host lists queues =
     let d = newOf microphone device lists queues in
     cond (eqb (h .reply) 0) (storedOut (d .reply) (d .device) (h .host)) (storedOut (h .reply) device (h .host))
 
--- 10 time passes, 11 a write, 12 one by base address, 13 one to the configuration, 14 a pin's change, 16 a saved state comes back
+-- 10 time passes, 11 a write, 12 one by base address, 13 one to the configuration, 14 a pin's change, 16 a saved state comes back, 17 with crowded lists emptied
 unfoldable pub changeOf : ℕ → ℕ → ℕ → List ℕ → Lent → Returned
 changeOf kind first second bytes x =
     cond (eqb kind 10) (behind (advanceOf first) x)
@@ -37,8 +37,9 @@ changeOf kind first second bytes x =
     (cond (eqb kind 12) (behind (barWriteOf (lowOf second) first bytes) x)
     (cond (eqb kind 13) (behind (configWriteOf first second bytes) x)
     (cond (eqb kind 14) (behind (pinOf (lowOf first)) x)
-    (cond (eqb kind 16) (behind (restoredBy bytes) x)
-    (returned none x))))))
+    (cond (eqb kind 16) (behind (restoredBy true bytes) x)
+    (cond (eqb kind 17) (behind (restoredBy false bytes) x)
+    (returned none x)))))))
 
 -- 20 a read, 21 one by base address, 22 one of the configuration, 23 the saved state
 unfoldable pub showOf : ℕ → ℕ → ℕ → List ℕ → List ℕ → List ℕ → ℕ → List ℕ → Shown

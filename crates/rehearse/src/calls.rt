@@ -64,7 +64,8 @@ pub fn change(
         ),
         13 => port_device::config_write(device, host, lists, queues, memory, first, second, bytes),
         14 => port_device::pin_presence_changed(device, host, lists, queues, memory, low(first)),
-        16 => port_device::restore(device, host, lists, queues, bytes),
+        16 => port_device::restore(true, device, host, lists, queues, bytes),
+        17 => port_device::restore(false, device, host, lists, queues, bytes),
         _ => NONE,
     }
 }

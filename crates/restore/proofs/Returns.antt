@@ -1,7 +1,7 @@
 -- Save and restore: which saved devices come back, and what of them does. Assumes nothing.
 use Prim.Native.Nat.{ℕ, zero, suc, _+_, _*_, _≤_, _<_}
 use mathlib.Core.Path.{_≡_, refl, sym, ap, subst, _∙_}
-use mathlib.Core.Bool.{Bool, true, false, cond, _&&_, and-false}
+use mathlib.Core.Bool.{Bool, true, false, cond, _&&_, and-false, true≢false}
 use mathlib.Core.List.{List}
 use native.Mathlib.Omega.{arith}
 use borrow.Author.Tests.{leb-true, eqb-true}
@@ -18,10 +18,11 @@ use Rattle.codec.specs.Codecs.{nodeAt}
 use Rattle.node.specs.Nodes as node
 use Rattle.format.specs.Hda.{pcmOf}
 use Rattle.format.specs.Format as format
+use Rattle.positions.specs.Positions.{positionsOf}
 use Rattle.stream.specs.declared.Stream.{Stream}
 use Rattle.stream.specs.Streams as stream
 use Rattle.stream.specs.Box as box
-use Rattle.stream.specs.Streams.{listSize}
+use Rattle.stream.specs.Streams.{listSize, uncrowdedOf}
 use Rattle.queue.specs.Queues.{queue}
 use Rattle.host.specs.declared.Host.{Host}
 use Rattle.host.specs.Hosts as hosts
@@ -41,13 +42,15 @@ use Rattle.snapshot.specs.Saves.{Save, saveStep, saveOf}
 use Rattle.parse.specs.States.{placeOf, converterNumber, formatNumber, stateNumber}
 use Rattle.parse.proofs.Choices.{both-pass}
 use Rattle.parse.proofs.Theorems.{TakenStream, TakenLast, taken-head, taken-streams}
-use Rattle.restore.specs.Restores.{opensOf, streamOf, refusedFrom, openingNumber, restoredLists, restoredHost, restoredDevice, Restored, acceptedOf, numberOf, restoreStep, restoreOf}
-use Rattle.restore.specs.Returns.{wordNumber, streamNumber, Restorable, asksOf, Willing, returnedDevice, returnedQueue, returnedHost}
+use Rattle.restore.specs.Restores.{opensOf, listOf, restoredStream, refusedFrom, openingNumber, restoredHost, restoredDevice, Restored, acceptedOf, numberOf, restoreStep, restoreOf}
+use Rattle.restore.specs.Returns.{wordNumber, streamNumber, Restorable, asksOf, Willing, returnedStream, returnedDevice, returnedQueue, returnedHost}
 use Rattle.restore.proofs.Outcomes.{taken-fits}
-use Rattle.restore.proofs.Lists.{valid-same, restored-positions}
+use Rattle.restore.proofs.Streams.{kept-few, valid-same}
+use Rattle.restore.proofs.Lists.{restored-part}
 use Rattle.restore.proofs.Takes.{state-takes}
 use Rattle.restore.proofs.Saves as saves
 use Rattle.restore.proofs.Theorems.{number-taken, block-identity}
+use Rattle.restore.proofs.Emptied.{crowded-refused}
 
 -- no opening is refused where none of those that are asked for is
 none-refused : (s : List ℕ) (microphone : Bool) (h : Host) → ((i : ℕ) → i < box.streams → (opensOf s microphone i && hosts.failsOf h i) ≡ false)
@@ -64,6 +67,13 @@ off-willing saved h p c i few = rw (fails (box.captures i)) (and-false (asksOf s
     fails true = c
     fails false = p
 
+-- a save that is done passed the check
+save-checked : (saved : Hda) (h₀ : Host) (l₀ : List ℕ) (q₀ : ℕ) (into : List ℕ) → saveOf saved h₀ l₀ q₀ into .saved .number ≡ 0 → checkOf saved h₀ l₀ q₀ ≡ 0
+unfolding saveOf
+save-checked saved h₀ l₀ q₀ into =
+    let n = checkOf saved h₀ l₀ q₀ in
+    by-cond (λ (r : Save). r .saved .number ≡ 0 → n ≡ 0) (eqb n 0) _ _ (λ e _. eqb-true n 0 e) (λ _ z. z)
+
 -- what a save that is done has written, as many bytes as it says, is the state
 pub saved-bytes : (saved : Hda) (h₀ : Host) (l₀ : List ℕ) (q₀ : ℕ) → TypedDevice saved → checkOf saved h₀ l₀ q₀ ≡ 0 → (into : List ℕ)
     → saveOf saved h₀ l₀ q₀ into .saved .number ≡ 0 → take (saveOf saved h₀ l₀ q₀ into .saved .count) (saveOf saved h₀ l₀ q₀ into .into) ≡ stateOf saved l₀
@@ -76,9 +86,21 @@ saved-bytes saved h₀ l₀ q₀ t check₀ into =
     (λ _ z. absurd (omega (arith, z)))
     (λ _ z. take-at (stateOf saved l₀) _ (sizeOf saved) size))
 
+-- so a device whose lists are not crowded saves nothing that is refused with 20, by whatever device
+pub saved-uncrowded : (saved : Hda) (h₀ : Host) (l₀ : List ℕ) (q₀ : ℕ) → TypedDevice saved
+    → ((i : ℕ) → i < box.streams → uncrowdedOf (streamAt saved i) (partOf listSize i l₀) ≡ true) → (into : List ℕ)
+    → let r = saveOf saved h₀ l₀ q₀ into in r .saved .number ≡ 0 → (strict : Bool) (d : Hda) (h : Host) → numberOf strict (take (r .saved .count) (r .into)) d h ≡ 20 → ⊥
+saved-uncrowded saved h₀ l₀ q₀ t free into z strict d h =
+    let check₀ = save-checked saved h₀ l₀ q₀ into z in
+    let p = passed saved h₀ l₀ q₀ check₀ in
+    subst (λ (s : List ℕ). numberOf strict s d h ≡ 20 → ⊥) (sym (saved-bytes saved h₀ l₀ q₀ t check₀ into z))
+    (λ e.
+    let c = crowded-refused strict (stateOf saved l₀) d h e in
+    true≢false (sym (free (c .stream) (c .one)) ∙ sym (saves.uncrowded-saved saved l₀ t (record { few = p .pending; long = p .lists }) (c .stream) (c .one)) ∙ c .crowded))
+
 -- the saved device, and the one that takes its state
 module _ (saved : Hda) (h₀ : Host) (l₀ : List ℕ) (q₀ : ℕ) (t : TypedDevice saved) (check₀ : checkOf saved h₀ l₀ q₀ ≡ 0)
-    (d : Hda) (h : Host) (l : List ℕ) (q : ℕ) (check : checkOf d h l q ≡ 0) (same : d .microphone ≡ saved .microphone) where
+    (d : Hda) (h : Host) (l : List ℕ) (q : ℕ) (check : checkOf d h l q ≡ 0) (same : d .microphone ≡ saved .microphone) (strict : Bool) where
   abbrev s : List ℕ
   s = stateOf saved l₀
 
@@ -111,40 +133,40 @@ module _ (saved : Hda) (h₀ : Host) (l₀ : List ℕ) (q₀ : ℕ) (t : TypedDe
         identity = sym (block-identity s) ∙ ap (wordAt 4 0) (saves.config-saved saved l₀ t kept) ∙ v₀ .identified ∙ sym (v .identified);
       }
 
-  stream-taken : (i : ℕ) → i < box.streams → streamNumber saved i ≡ 0 → TakenStream s i
-  stream-taken i few format =
+  stream-taken : (i : ℕ) → i < box.streams → Restorable strict saved l₀ → TakenStream strict s i
+  stream-taken i few r =
       let x = saves.stream-saved saved l₀ t kept i few in
       let list : List ℕ = drop (placeOf s i + 34) s in
       record {
         room = omega (arith, x .room, ap (λ (y : Stream). y .pending) (x .stream));
         valid = ap (λ (y : Stream). stream.validOf y list) (x .stream) ∙ valid-same (streamAt saved i) list (partOf listSize i l₀) (x .positions) ∙ p₀ .streams i few;
-        format = format-same i few ∙ format;
+        format = format-same i few ∙ r .formats .streams i few;
+        uncrowded = λ on. saves.uncrowded-saved saved l₀ t kept i few ∙ r .uncrowded on i few;
       }
 
-  -- ---- a state is taken exactly where the formats are supported
-  pub saved-taken : Restorable saved → stateNumber s (d .microphone) (d .config) ≡ 0
+  -- ---- a state is taken exactly where the formats are supported, and no list is crowded where that is refused
+  pub saved-taken : Restorable strict saved l₀ → stateNumber strict s (d .microphone) (d .config) ≡ 0
   saved-taken r =
-      state-takes s (d .microphone) (d .config)
+      state-takes strict s (d .microphone) (d .config)
       (record {
         long = saves.long-saved saved l₀ t kept;
         marked = saves.marked-saved saved l₀ t kept;
         own = saves.microphone-saved saved l₀ t kept ∙ ap flag (sym same);
-        converters = converters-same ∙ rw (r .output, r .input);
+        converters = converters-same ∙ rw (r .formats .output, r .formats .input);
       })
-      (λ i few. stream-taken i few (r .streams i few)) (saves.all-saved saved l₀ t kept) last-saved
+      (λ i few. stream-taken i few r) (saves.all-saved saved l₀ t kept) last-saved
 
-  pub taken-restorable : stateNumber s (d .microphone) (d .config) ≡ 0 → Restorable saved
+  pub taken-restorable : stateNumber strict s (d .microphone) (d .config) ≡ 0 → Restorable strict saved l₀
   taken-restorable z =
       let c = both-pass (wordNumber (node.formatOf (nodeAt (saved .link .codec) 2))) (wordNumber (node.formatOf (nodeAt (saved .link .codec) 4)))
-      (sym converters-same ∙ taken-head s (d .microphone) (d .config) z .converters) in
+      (sym converters-same ∙ taken-head strict s (d .microphone) (d .config) z .converters) in
       record {
-        output = c .0;
-        input = c .1;
-        streams = λ i few. sym (format-same i few) ∙ taken-streams s (d .microphone) (d .config) z .1 i few .format;
+        formats = record { output = c .0; input = c .1; streams = λ i few. sym (format-same i few) ∙ taken-streams strict s (d .microphone) (d .config) z .1 i few .format };
+        uncrowded = λ on i few. sym (saves.uncrowded-saved saved l₀ t kept i few) ∙ taken-streams strict s (d .microphone) (d .config) z .1 i few .uncrowded on;
       }
 
   -- ---- what comes back
-  device-back : restoredDevice s d ≡ returnedDevice saved d
+  device-back : restoredDevice strict s d ≡ returnedDevice strict saved l₀ d
   unfolding restoredDevice returnedDevice
   device-back =
       rw (
@@ -152,7 +174,7 @@ module _ (saved : Hda) (h₀ : Host) (l₀ : List ℕ) (q₀ : ℕ) (t : TypedDe
         saves.regs-saved saved l₀ t kept,
         saves.link-saved saved l₀ t kept,
         saves.clock-saved saved l₀ t kept,
-        saves.streams-saved saved l₀ t kept,
+        saves.streams-saved saved l₀ t kept strict,
         saves.paused-saved saved l₀ t kept,
         same,
       )
@@ -169,54 +191,59 @@ module _ (saved : Hda) (h₀ : Host) (l₀ : List ℕ) (q₀ : ℕ) (t : TypedDe
 
   -- of these bytes: the answer, and each stream's positions in its part of the lists
   pub record Back (state : List ℕ) : Type 0 where
-    pub answer : restoreOf state d h l q .answer ≡ finishOf 0 (returnedDevice saved d) (returnedHost saved h)
+    pub answer : restoreOf strict state d h l q .answer ≡ finishOf 0 (returnedDevice strict saved l₀ d) (returnedHost saved h)
     pub positions : (i : ℕ) → i < box.streams
-        → take (8 * streamAt saved i .pending) (partOf listSize i (restoreOf state d h l q .lists)) ≡ take (8 * streamAt saved i .pending) (partOf listSize i l₀)
+        → let n = 8 * returnedStream strict saved l₀ i .pending in take n (partOf listSize i (restoreOf strict state d h l q .lists)) ≡ take n (partOf listSize i l₀)
 
-  accepted : Restorable saved → Willing saved h → restoreOf s d h l q ≡ acceptedOf s d h l
+  accepted : Restorable strict saved l₀ → Willing saved h → restoreOf strict s d h l q ≡ acceptedOf strict s d h l
   unfolding restoreOf restoreStep openingNumber
   accepted r w =
       let each : (i : ℕ) → i < box.streams → (opensOf s (d .microphone) i && hosts.failsOf h i) ≡ false
       = λ i few. ap (λ (b : Bool). b && hosts.failsOf h i) (opens-same i few) ∙ w i few in
       rw (check, saved-taken r, none-refused s (d .microphone) h each box.streams 0 (omega arith))
 
-  pub save-restores : Restorable saved → Willing saved h → Back s
+  pub save-restores : Restorable strict saved l₀ → Willing saved h → Back s
   save-restores r w =
       let done = accepted r w in
-      let fits = taken-fits s (d .microphone) (d .config) (saved-taken r) in
+      let fits = taken-fits strict s (d .microphone) (d .config) (saved-taken r) in
       record {
         answer = ap (λ (x : Restored). x .answer) done ∙ rw (device-back, host-back);
         positions = λ i few.
+            let n = 8 * returnedStream strict saved l₀ i .pending in
+            let m = 8 * streamAt saved i .pending in
+            let fewer : n ≤ m = omega (arith, kept-few strict (streamAt saved i) (partOf listSize i l₀)) in
             let x = saves.stream-saved saved l₀ t kept i few in
-            let small : 8 * streamAt saved i .pending ≤ listSize = omega (arith, p₀ .pending i few) in
-            let count : streamOf s i .pending ≡ streamAt saved i .pending = ap (λ (y : Stream). y .pending) (x .stream) in
-            let own = rw count at (restored-positions s fits l (passed d h l q check .lists) i few) in
-            ap (λ (y : Restored). take (8 * streamAt saved i .pending) (partOf listSize i (y .lists))) done
-            ∙ take-take (8 * streamAt saved i .pending) listSize (drop (listSize * i) (restoredLists s l)) small
-            ∙ own
-            ∙ x .positions;
+            let count : restoredStream strict s i .pending ≡ returnedStream strict saved l₀ i .pending = ap (λ (y : Stream). y .pending) (saves.kept-saved saved l₀ t kept strict i few) in
+            ap (λ (y : Restored). take n (partOf listSize i (y .lists))) done
+            ∙ rw count at (restored-part strict s fits l (passed d h l q check .lists) i few)
+            ∙ sym (take-take n m (listOf s i) fewer) ∙ ap (take n) (x .positions) ∙ take-take n m (partOf listSize i l₀) fewer;
       }
 
   -- so it is from the space lent to `save`
-  pub save-returns : (into : List ℕ) → saveOf saved h₀ l₀ q₀ into .saved .number ≡ 0 → Restorable saved → Willing saved h
+  pub save-returns : (into : List ℕ) → saveOf saved h₀ l₀ q₀ into .saved .number ≡ 0 → Restorable strict saved l₀ → Willing saved h
       → Back (take (saveOf saved h₀ l₀ q₀ into .saved .count) (saveOf saved h₀ l₀ q₀ into .into))
   save-returns into z r w = subst Back (sym (saved-bytes saved h₀ l₀ q₀ t check₀ into z)) (save-restores r w)
 
   -- and no other device comes back
-  pub restores-only : restoreOf s d h l q .answer .number ≡ 0 → Restorable saved
+  pub restores-only : restoreOf strict s d h l q .answer .number ≡ 0 → Restorable strict saved l₀
   unfolding restoreOf restoreStep
   restores-only =
       rw check
-      (by-cond (λ (r : Restored). r .answer .number ≡ 0 → Restorable saved) (eqb (numberOf s d h) 0) _ _
-      (λ e z. taken-restorable (number-taken s d h (eqb-true (numberOf s d h) 0 e)))
-      (λ e z. taken-restorable (number-taken s d h (sym (answer-number (numberOf s d h) _ d h) ∙ z))))
+      (by-cond (λ (r : Restored). r .answer .number ≡ 0 → Restorable strict saved l₀) (eqb (numberOf strict s d h) 0) _ _
+      (λ e z. taken-restorable (number-taken strict s d h (eqb-true (numberOf strict s d h) 0 e)))
+      (λ e z. taken-restorable (number-taken strict s d h (sym (answer-number (numberOf strict s d h) _ d h) ∙ z))))
 
 -- a new device is one of them
-pub fresh-restorable : (microphone : Bool) → Restorable (freshOf microphone)
-unfolding freshOf codec.freshOf node.freshNodeOf resetOf resetStreamOf eachOf putAt storeAt wordAt format.formatOf pcmOf
-fresh-restorable microphone = record { output = refl; input = refl; streams = each }
+pub fresh-restorable : (strict microphone : Bool) (lists : List ℕ) → Restorable strict (freshOf microphone) lists
+unfolding freshOf stream.freshOf positionsOf codec.freshOf node.freshNodeOf resetOf resetStreamOf eachOf putAt storeAt wordAt format.formatOf pcmOf
+fresh-restorable strict microphone lists = record { formats = record { output = refl; input = refl; streams = each }; uncrowded = λ _. free }
   where
     each : (i : ℕ) → i < box.streams → streamNumber (freshOf microphone) i ≡ 0
     each zero few = refl
     each (suc zero) few = refl
     each (suc (suc i)) few = absurd (omega arith)
+
+    free : (i : ℕ) → i < box.streams → uncrowdedOf (streamAt (freshOf microphone) i) (partOf listSize i lists) ≡ true
+    free zero few = refl
+    free (suc zero) few = refl
+    free (suc (suc i)) few = absurd (omega arith)

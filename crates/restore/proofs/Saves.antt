@@ -1,7 +1,7 @@
 -- What a saved state has of its device: the head's parts, and every stream with its positions. Assumes nothing.
 use Prim.Native.Nat.{ℕ, zero, suc, _+_, _-_, _*_, _≤_, _<_}
 use mathlib.Core.Path.{_≡_, refl, sym, ap, _∙_}
-use mathlib.Core.Bool.{true}
+use mathlib.Core.Bool.{Bool, true}
 use mathlib.Core.List.{List, _++_, append-assoc}
 use native.Mathlib.Omega.{arith}
 use native.Mathlib.Numerals.{add-one}
@@ -17,7 +17,7 @@ use Rattle.node.specs.Nodes as node
 use Rattle.codec.specs.Bytes.{codecAt}
 use Rattle.codec.proofs.Bytes.{record-place}
 use Rattle.stream.specs.declared.Stream.{Stream}
-use Rattle.stream.specs.Streams.{listSize, freshOf}
+use Rattle.stream.specs.Streams.{listSize, uncrowdedOf}
 use Rattle.stream.specs.Box.{streams}
 use Rattle.registers.specs.Places.{byteAt}
 use Rattle.rings.specs.declared.Link.{Link}
@@ -25,16 +25,19 @@ use Rattle.device.specs.declared.Hda.{Hda}
 use Rattle.device.specs.Devices as devices
 use Rattle.record.specs.Devices.{flag, headOf, numbersOf, deviceBytes}
 use Rattle.record.specs.Loads.{flagAt, markedOf, blockAt, linkAt, clockAt, streamAt, deviceAt}
+use Rattle.record.specs.Rows.{rowOf}
 use Rattle.record.specs.Typed.{TypedDevice}
 use Rattle.record.proofs.Sizes.{length-head, length-numbers}
-use Rattle.record.proofs.Places.{run-after, row-same, row-list, flag-value}
+use Rattle.record.proofs.Places.{run-after, row-same, flag-value}
 use Rattle.record.proofs.Theorems.{stream-there, device-stored}
 use Rattle.snapshot.specs.States as states
 use Rattle.snapshot.specs.States.{streamsOf, stateOf, sizesOf, sizeOf, Kept}
 use Rattle.snapshot.proofs.Sizes.{length-stream, streams-cons, part-room, length-state}
 use Rattle.parse.specs.States.{placeOf}
-use Rattle.restore.specs.Restores.{streamOf, restoredStreams}
+use Rattle.restore.specs.Restores.{streamOf, listOf, keptOf, restoredStream, restoredStreams}
+use Rattle.restore.specs.Returns.{returnedStream}
 use Rattle.restore.proofs.Places.{place-next}
+use Rattle.restore.proofs.Streams.{uncrowded-same, kept-same}
 
 -- a word and a byte inside a part of a list
 module _ (size from : ℕ) (l : List ℕ) where
@@ -218,7 +221,16 @@ module _ (d : Hda) (l : List ℕ) (t : TypedDevice d) (k : Kept d l) where
   unfolding sizesOf
   all-saved = omega (arith, stands streams 0 refl .sizes, length-saved)
 
-  pub streams-saved : restoredStreams streams 0 s ≡ d .streams
-  streams-saved =
-      row-same (streamOf s) (devices.streamAt d) streams (λ i few. stream-saved i few .stream) streams 0 (omega arith)
-      ∙ row-list freshOf (d .streams) streams 0 (sym (t .count))
+  pub uncrowded-saved : (i : ℕ) → i < streams → uncrowdedOf (streamOf s i) (listOf s i) ≡ uncrowdedOf (devices.streamAt d i) (partOf listSize i l)
+  uncrowded-saved i few =
+      let x = stream-saved i few in
+      ap (λ (y : Stream). uncrowdedOf y (listOf s i)) (x .stream) ∙ uncrowded-same (devices.streamAt d i) (listOf s i) (partOf listSize i l) (x .positions)
+
+  -- and as the device would put it in force
+  pub kept-saved : (strict : Bool) (i : ℕ) → i < streams → restoredStream strict s i ≡ returnedStream strict d l i
+  kept-saved strict i few =
+      let x = stream-saved i few in
+      ap (λ (y : Stream). keptOf strict y (listOf s i)) (x .stream) ∙ kept-same (devices.streamAt d i) (listOf s i) (partOf listSize i l) (x .positions) strict
+
+  pub streams-saved : (strict : Bool) → restoredStreams strict streams 0 s ≡ rowOf (returnedStream strict d l) streams 0
+  streams-saved strict = row-same (restoredStream strict s) (returnedStream strict d l) streams (kept-saved strict) streams 0 (omega arith)

@@ -1,7 +1,7 @@
 -- Which states are taken, from what is known of their parts: the way back from parse's theorems. Assumes nothing.
 use Prim.Native.Nat.{ℕ, zero, suc, _+_, _-_, _*_, _/_, _≤_, _<_}
-use mathlib.Core.Path.{_≡_, ap, _∙_}
-use mathlib.Core.Bool.{Bool, true}
+use mathlib.Core.Path.{_≡_, refl, ap, _∙_}
+use mathlib.Core.Bool.{Bool, true, false, cond}
 use mathlib.Core.List.{List}
 use native.Mathlib.Omega.{arith}
 use borrow.Author.Tests.{le-leb, lt-ltb, le-ltb, eq-eqb}
@@ -10,14 +10,14 @@ use Rattle.word.specs.Place.{wordAt}
 use Rattle.word.specs.Each.{eachOf}
 use Rattle.clock.specs.Billionths.{billion}
 use Rattle.stream.specs.declared.Stream.{Stream}
-use Rattle.stream.specs.Streams.{places, validOf}
+use Rattle.stream.specs.Streams.{places, validOf, uncrowdedOf}
 use Rattle.stream.specs.Box.{streams}
 use Rattle.stream.proofs.Validity.{valid-parts}
 use Rattle.registers.specs.Places.{byteAt}
 use Rattle.reader.specs.Fields.{fieldOf, runOf, thenOf}
 use Rattle.reader.proofs.Fields as fields
 use Rattle.record.specs.Loads.{streamAt}
-use Rattle.parse.specs.States.{headNumber, listNumber, formatNumber, countsNumber, streamNumber, stepOut, stepAt, goesOn, streamsStep, placeOf, lastNumber, stateNumber}
+use Rattle.parse.specs.States.{headNumber, listNumber, formatNumber, countsNumber, crowdNumber, streamNumber, stepOut, stepAt, goesOn, streamsStep, placeOf, lastNumber, stateNumber}
 use Rattle.parse.proofs.Heads.{Head}
 use Rattle.parse.proofs.Theorems.{TakenStream, TakenLast}
 use Rattle.restore.proofs.Places.{place-next}
@@ -41,9 +41,15 @@ module _ (s : List ℕ) where
       (field-there 4 1 2 _ (omega arith)
       ∙ rw (eq-eqb _ _ (h .own)) (run-there 5 657 2 _ (omega arith) ∙ rw (h .converters) (run-there 662 18 2 _ (omega arith))))
 
-  stream-takes : (t : Stream) (at i : ℕ) → at + 8 * t .pending ≤ length s → validOf t (drop at s) ≡ true → formatNumber s i ≡ 0 → streamNumber s t at i ≡ 0
+  crowd-takes : (strict : Bool) (t : Stream) (at : ℕ) → (strict ≡ true → uncrowdedOf t (drop at s) ≡ true) → cond strict (crowdNumber s t at) 0 ≡ 0
+  unfolding crowdNumber
+  crowd-takes true t at free = rw (free refl)
+  crowd-takes false t at free = refl
+
+  stream-takes : (strict : Bool) (t : Stream) (at i : ℕ) → at + 8 * t .pending ≤ length s → validOf t (drop at s) ≡ true → formatNumber s i ≡ 0
+      → (strict ≡ true → uncrowdedOf t (drop at s) ≡ true) → streamNumber strict s t at i ≡ 0
   unfolding streamNumber listNumber countsNumber
-  stream-takes t at i room valid format =
+  stream-takes strict t at i room valid format free =
       let v = valid-parts t (drop at s) valid in
       let there : t .pending ≤ (length s - at) / 8 = omega arith in
       rw (
@@ -55,17 +61,19 @@ module _ (s : List ℕ) where
         le-leb (t .consumed) (t .submitted) (v .heard),
         lt-ltb (t .fraction) (8193 * 1_000_000_000) (v .time),
       )
+      (crowd-takes strict t at free)
 
-  step-takes : (i : ℕ) → TakenStream s i → stepAt s i (stepOut 0 (placeOf s i)) ≡ stepOut 0 (placeOf s (i + 1))
+module _ (strict : Bool) (s : List ℕ) where
+  step-takes : (i : ℕ) → TakenStream strict s i → stepAt strict s i (stepOut 0 (placeOf s i)) ≡ stepOut 0 (placeOf s (i + 1))
   unfolding stepAt
   step-takes i t =
-      let number : streamNumber s (streamAt (placeOf s i) s) (placeOf s i + 34) i ≡ 0
-      = stream-takes (streamAt (placeOf s i) s) (placeOf s i + 34) i (t .room) (t .valid) (t .format) in
+      let number : streamNumber strict s (streamAt (placeOf s i) s) (placeOf s i + 34) i ≡ 0
+      = stream-takes s strict (streamAt (placeOf s i) s) (placeOf s i + 34) i (t .room) (t .valid) (t .format) (t .uncrowded) in
       let next : placeOf s i + 34 + 8 * streamAt (placeOf s i) s .pending ≡ placeOf s (i + 1) = omega (arith, place-next s i) in
-      run-there (placeOf s i) 34 (stepOut 2 (placeOf s i)) _ (omega (arith, t .room)) ∙ rw (number, next)
+      run-there s (placeOf s i) 34 (stepOut 2 (placeOf s i)) _ (omega (arith, t .room)) ∙ rw (number, next)
 
-  steps-take : (n i : ℕ) → ((k : ℕ) → i ≤ k → k < i + n → TakenStream s k)
-      → eachOf goesOn (stepAt s) n i (stepOut 0 (placeOf s i)) ≡ stepOut 0 (placeOf s (i + n))
+  steps-take : (n i : ℕ) → ((k : ℕ) → i ≤ k → k < i + n → TakenStream strict s k)
+      → eachOf goesOn (stepAt strict s) n i (stepOut 0 (placeOf s i)) ≡ stepOut 0 (placeOf s (i + n))
   unfolding eachOf
   steps-take zero i each = let end : i ≡ i + zero = omega arith in ap (λ (k : ℕ). stepOut 0 (placeOf s k)) end
   steps-take (suc n) i each =
@@ -73,7 +81,7 @@ module _ (s : List ℕ) where
       rw (step-takes i (each i (omega arith) (omega arith)))
       (steps-take n (i + 1) (λ k from to. each k (omega arith) (omega arith)) ∙ ap (λ (k : ℕ). stepOut 0 (placeOf s k)) end)
 
-  streams-take : ((i : ℕ) → i < streams → TakenStream s i) → streamsStep s ≡ stepOut 0 (placeOf s streams)
+  streams-take : ((i : ℕ) → i < streams → TakenStream strict s i) → streamsStep strict s ≡ stepOut 0 (placeOf s streams)
   unfolding streamsStep placeOf
   streams-take each = steps-take streams 0 (λ k from to. each k (omega arith))
 
@@ -88,8 +96,8 @@ module _ (s : List ℕ) where
         eq-eqb (wordAt 4 6 s) (wordAt 4 0 config) (t .identity),
       )
 
-  pub state-takes : (microphone : Bool) (config : List ℕ) → Head s microphone → ((i : ℕ) → i < streams → TakenStream s i) → placeOf s streams ≡ length s
-      → TakenLast s config → stateNumber s microphone config ≡ 0
+  pub state-takes : (microphone : Bool) (config : List ℕ) → Head s microphone → ((i : ℕ) → i < streams → TakenStream strict s i) → placeOf s streams ≡ length s
+      → TakenLast s config → stateNumber strict s microphone config ≡ 0
   unfolding stateNumber
   state-takes microphone config head each whole last =
-      rw (head-takes microphone head, streams-take each) (last-takes config (placeOf s streams) whole last)
+      rw (head-takes s microphone head, streams-take each) (last-takes config (placeOf s streams) whole last)

@@ -34,7 +34,7 @@ use Rattle.record.specs.Loads.{blockAt, clockAt}
 use Rattle.record.proofs.Places.{row-at}
 use Rattle.parse.specs.States.{stateNumber}
 use Rattle.parse.proofs.Theorems.{taken-last, taken-streams}
-use Rattle.restore.specs.Restores.{opensOf, streamOf, openingNumber, laterOf, restoredLists, restoredHost, restoredDevice, Restored, acceptedOf, numberOf, restoreStep, restoreOf}
+use Rattle.restore.specs.Restores.{opensOf, restoredStream, openingNumber, laterOf, restoredLists, restoredHost, restoredDevice, Restored, acceptedOf, numberOf, restoreStep, restoreOf}
 use Rattle.restore.proofs.Outcomes.{taken-fits}
 use Rattle.restore.proofs.Lists.{length-restored, restored-stream}
 
@@ -73,62 +73,62 @@ host-valid s microphone h v =
     rw (left (hosts.validDownstream (h .downstream)) _ v, every-row _ (λ k. empty-valid (opensOf s microphone k)) streams 0)
 
 -- a state that is taken
-module _ (s : List ℕ) (d : Hda) (h : Host) (l : List ℕ) (q : ℕ) (taken : stateNumber s (d .microphone) (d .config) ≡ 0) (check : checkOf d h l q ≡ 0) where
+module _ (strict : Bool) (s : List ℕ) (d : Hda) (h : Host) (l : List ℕ) (q : ℕ) (taken : stateNumber strict s (d .microphone) (d .config) ≡ 0) (check : checkOf d h l q ≡ 0) where
   p : Passed d h l q
   p = passed d h l q check
 
-  device-valid : validOf (restoredDevice s d) (restoredLists s l) ≡ true
+  device-valid : validOf (restoredDevice strict s d) (restoredLists strict s l) ≡ true
   unfolding restoredDevice
   device-valid =
       let v = device-parts d l (p .device) in
-      let last = taken-last s (d .microphone) (d .config) taken in
-      let each = taken-streams s (d .microphone) (d .config) taken .1 in
-      let fits = taken-fits s (d .microphone) (d .config) taken in
-      parts-device (restoredDevice s d) (restoredLists s l) (record {
+      let last = taken-last strict s (d .microphone) (d .config) taken in
+      let each = taken-streams strict s (d .microphone) (d .config) taken .1 in
+      let fits = taken-fits strict s (d .microphone) (d .config) taken in
+      parts-device (restoredDevice strict s d) (restoredLists strict s l) (record {
         time = later-time (d .clock) (clockAt s) (v .time) (last .fraction);
         responses = last .responses;
         identified = block-identity s ∙ last .identity ∙ v .identified;
-        streams = λ i few. ap (λ (x : Stream). stream.validOf x (partOf listSize i (restoredLists s l))) (row-at stream.freshOf (streamOf s) streams 0 i few ∙ ap (streamOf s) (zero-add i))
-            ∙ restored-stream s fits l (p .lists) i few (each i few .valid);
+        streams = λ i few. ap (λ (x : Stream). stream.validOf x (partOf listSize i (restoredLists strict s l))) (row-at stream.freshOf (restoredStream strict s) streams 0 i few ∙ ap (restoredStream strict s) (zero-add i))
+            ∙ restored-stream strict s fits l (p .lists) i few (each i few .valid);
       })
 
-  accepted-valid : checkOf (acceptedOf s d h l .answer .hda) (acceptedOf s d h l .answer .host) (acceptedOf s d h l .lists) q ≡ 0
+  accepted-valid : checkOf (acceptedOf strict s d h l .answer .hda) (acceptedOf strict s d h l .answer .host) (acceptedOf strict s d h l .lists) q ≡ 0
   unfolding finishOf answerOf
   accepted-valid =
-      let fits = taken-fits s (d .microphone) (d .config) taken in
-      passes (acceptedOf s d h l .answer .hda) (restoredHost s (d .microphone) h) (restoredLists s l) q
-      (omega (arith, length-restored s fits l (p .lists), p .lists)) (p .queues)
-      (finish-valid 0 (restoredDevice s d) (restoredHost s (d .microphone) h) (restoredLists s l) device-valid)
+      let fits = taken-fits strict s (d .microphone) (d .config) taken in
+      passes (acceptedOf strict s d h l .answer .hda) (restoredHost s (d .microphone) h) (restoredLists strict s l) q
+      (omega (arith, length-restored strict s fits l (p .lists), p .lists)) (p .queues)
+      (finish-valid 0 (restoredDevice strict s d) (restoredHost s (d .microphone) h) (restoredLists strict s l) device-valid)
       (host-valid s (d .microphone) h (p .host))
 
 -- ---- theorems
 -- accepted means that every test of the state passed
-pub number-taken : (s : List ℕ) (d : Hda) (h : Host) → numberOf s d h ≡ 0 → stateNumber s (d .microphone) (d .config) ≡ 0
-number-taken s d h =
-    let n = stateNumber s (d .microphone) (d .config) in
+pub number-taken : (strict : Bool) (s : List ℕ) (d : Hda) (h : Host) → numberOf strict s d h ≡ 0 → stateNumber strict s (d .microphone) (d .config) ≡ 0
+number-taken strict s d h =
+    let n = stateNumber strict s (d .microphone) (d .config) in
     by-cond (λ (y : ℕ). y ≡ 0 → n ≡ 0) (eqb n 0) (openingNumber s (d .microphone) h) n (λ e z. eqb-true n 0 e) (λ e z. z)
 
-module _ (s : List ℕ) (d : Hda) (h : Host) (l : List ℕ) (q : ℕ) where
+module _ (strict : Bool) (s : List ℕ) (d : Hda) (h : Host) (l : List ℕ) (q : ℕ) where
   -- a machine that passes the check passes it after a restore, accepted or refused
   pub restored-valid : checkOf d h l q ≡ 0
-      → checkOf (restoreOf s d h l q .answer .hda) (restoreOf s d h l q .answer .host) (restoreOf s d h l q .lists) q ≡ 0
+      → checkOf (restoreOf strict s d h l q .answer .hda) (restoreOf strict s d h l q .answer .host) (restoreOf strict s d h l q .lists) q ≡ 0
   unfolding restoreOf restoreStep answerOf
   restored-valid check =
-      let n = numberOf s d h in
+      let n = numberOf strict s d h in
       rw check
       (by-cond (λ (r : Restored). checkOf (r .answer .hda) (r .answer .host) (r .lists) q ≡ 0) (eqb n 0) _ _
-      (λ e. accepted-valid s d h l q (number-taken s d h (eqb-true n 0 e)) check)
+      (λ e. accepted-valid strict s d h l q (number-taken strict s d h (eqb-true n 0 e)) check)
       (λ e. check))
 
   -- a refusal changes nothing
-  pub refused-kept : (restoreOf s d h l q .answer .number ≡ 0 → ⊥)
-      → (restoreOf s d h l q .answer .hda ≡ d) × (restoreOf s d h l q .answer .host ≡ h) × (restoreOf s d h l q .lists ≡ l)
+  pub refused-kept : (restoreOf strict s d h l q .answer .number ≡ 0 → ⊥)
+      → (restoreOf strict s d h l q .answer .hda ≡ d) × (restoreOf strict s d h l q .answer .host ≡ h) × (restoreOf strict s d h l q .lists ≡ l)
   unfolding restoreOf restoreStep answerOf
   refused-kept =
       let P : Restored → Type 0 = λ r. (r .answer .number ≡ 0 → ⊥) → (r .answer .hda ≡ d) × (r .answer .host ≡ h) × (r .lists ≡ l) in
       by-cond P (eqb (checkOf d h l q) 0) _ _
       (λ _.
-      by-cond P (eqb (numberOf s d h) 0) _ _
-      (λ _ z. absurd (z (finish-number 0 (restoredDevice s d) (restoredHost s (d .microphone) h))))
+      by-cond P (eqb (numberOf strict s d h) 0) _ _
+      (λ _ z. absurd (z (finish-number 0 (restoredDevice strict s d) (restoredHost s (d .microphone) h))))
       (λ _ z. (refl, refl, refl)))
       (λ _ z. (refl, refl, refl))

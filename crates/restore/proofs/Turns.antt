@@ -1,10 +1,11 @@
 -- The loops over streams: the scan of the openings, and a stream's positions put into its part of the lists. Assumes nothing.
-use Prim.Native.Nat.{ℕ, zero, suc, _+_, _*_, _≤_, _<_}
-use mathlib.Core.Path.{_≡_, refl, _∙_}
+use Prim.Native.Nat.{ℕ, zero, suc, _+_, _-_, _*_, _≤_, _<_}
+use mathlib.Core.Path.{_≡_, refl, ap, _∙_}
 use mathlib.Core.Bool.{Bool, true, false, _&&_}
 use mathlib.Core.List.{List}
 use native.Mathlib.Omega.{arith}
-use lib.ListN.{length, take, drop}
+use lib.ListN.{length, take, drop, length-drop}
+use lib.Seq.{take-all}
 use Rattle.word.specs.Place.{putAt}
 use Rattle.word.proofs.Lists.{length-part}
 use Rattle.stream.specs.declared.Stream.{Stream}
@@ -14,8 +15,9 @@ use Rattle.host.specs.declared.Host.{Host}
 use Rattle.host.specs.Hosts.{failsOf}
 use Rattle.record.specs.Loads.{streamAt}
 use Rattle.parse.specs.States.{placeOf}
-use Rattle.restore.specs.Restores.{opensOf, refusedFrom, putPositions, Fits}
+use Rattle.restore.specs.Restores.{opensOf, refusedFrom, keptOf, restoredStream, putPositions, Fits}
 use Rattle.restore.proofs.Places.{read-same, read-room}
+use Rattle.restore.proofs.Streams.{kept-few}
 
 -- the opening of stream i, and those after it
 module _ (s : List ℕ) (microphone : Bool) (h : Host) (count i : ℕ) where
@@ -35,11 +37,23 @@ module _ (s : List ℕ) (microphone : Bool) (h : Host) (count i : ℕ) where
   refused-end zero hn b = refl
   refused-end (suc k) hn b = absurd (omega arith)
 
--- stream i's positions as the code has them, `j` being their end less their start
-module _ (s : List ℕ) (i at j : ℕ) (t : Stream) (place : at ≡ placeOf s i) (own : t ≡ streamAt at s) (size : j ≡ 8 * t .pending) where
-  pub length-positions : Fits s → i < streams → length (take j (drop (at + 34) s)) ≡ j
-  length-positions f few =
-      length-part j (at + 34) s (omega (arith, read-room s i at t place own f few))
+-- stream i as the code has it: read at its place, and put in force with the state from its list on at hand
+module _ (strict : Bool) (s : List ℕ) (i at : ℕ) (t u : Stream) (place : at ≡ placeOf s i) (own : t ≡ streamAt at s)
+    (kept : u ≡ keptOf strict t (take (length s - (at + 34)) (drop (at + 34) s))) where
+  pub read-kept : u ≡ restoredStream strict s i
+  read-kept =
+      kept
+      ∙ ap (keptOf strict t) (take-all (length s - (at + 34)) (drop (at + 34) s) (omega (arith, length-drop (at + 34) s)))
+      ∙ rw (read-same s i at t place own, place)
 
-  pub positions-put : (l r : List ℕ) → r ≡ putAt (listSize * i) (take j (drop (at + 34) s)) l → r ≡ putPositions s i l
-  positions-put l r e = e ∙ rw (size, read-same s i at t place own, place)
+  pub read-fewer : u .pending ≤ t .pending
+  read-fewer = rw kept (kept-few strict t (take (length s - (at + 34)) (drop (at + 34) s)))
+
+  -- its positions, `j` being their end less their start
+  module _ (j : ℕ) (size : j ≡ 8 * u .pending) where
+    pub length-positions : Fits s → i < streams → length (take j (drop (at + 34) s)) ≡ j
+    length-positions f few =
+        length-part j (at + 34) s (omega (arith, read-room s i at t place own f few, read-fewer))
+
+    pub positions-put : (l r : List ℕ) → r ≡ putAt (listSize * i) (take j (drop (at + 34) s)) l → r ≡ putPositions strict s i l
+    positions-put l r e = e ∙ rw (size, read-kept, place)

@@ -1,4 +1,5 @@
--- The call `restore` (document 01, "Numbers returned" and "Where port and Rust part"; the Rust's `restore_state`).
+-- The calls `restore` (document 01, "Numbers returned" and "Where port and Rust part"; the Rust's `restore_state`) and, for states with crowded lists, `restore_emptied`
+-- (request T-09): `strict` is true for the first, which refuses them, and false for the second, which empties those lists.
 use Prim.Native.Nat.{ℕ, zero, suc, _+_, _*_, _≤_, _<_}
 use mathlib.Core.Bool.{Bool, false, cond, not, _&&_, _||_}
 use mathlib.Core.List.{List}
@@ -9,7 +10,7 @@ use Rattle.word.specs.Each.{eachOf, always}
 use Rattle.clock.specs.declared.Clock.{Clock}
 use Rattle.clock.specs.Clock.{shownOf}
 use Rattle.stream.specs.declared.Stream.{Stream}
-use Rattle.stream.specs.Streams.{places, listSize}
+use Rattle.stream.specs.Streams.{places, listSize, uncrowdedOf, emptiedOf}
 use Rattle.stream.specs.Box.{streams, captures}
 use Rattle.queue.specs.declared.Queue.{Queue}
 use Rattle.queue.specs.Queues.{queue}
@@ -51,19 +52,30 @@ pub record Fits (s : List ℕ) : Type 0 where
   pub whole : placeOf s streams ≤ length s
   pub few : (i : ℕ) → i < streams → streamOf s i .pending ≤ places
 
+-- its positions, and what follows them
+abbrev pub listOf : List ℕ → ℕ → List ℕ
+listOf s i = drop (placeOf s i + numbersSize) s
+
+-- a stream as it is put in force: with an empty list where its own is crowded and that is not refused
+abbrev pub keptOf : Bool → Stream → List ℕ → Stream
+keptOf strict t list = cond (strict || uncrowdedOf t list) t (emptiedOf t)
+
+abbrev pub restoredStream : Bool → List ℕ → ℕ → Stream
+restoredStream strict s i = keptOf strict (streamOf s i) (listOf s i)
+
 -- stream i and those after it
-abbrev pub restoredStreams : ℕ → ℕ → List ℕ → List Stream
-restoredStreams n i s = rowOf (streamOf s) n i
+abbrev pub restoredStreams : Bool → ℕ → ℕ → List ℕ → List Stream
+restoredStreams strict n i s = rowOf (restoredStream strict s) n i
 
--- a stream's positions, at the start of its part of the lists
-abbrev pub positionsAt : List ℕ → ℕ → List ℕ
-positionsAt s i = take (8 * streamOf s i .pending) (drop (placeOf s i + numbersSize) s)
+-- its positions, at the start of its part of the lists
+abbrev pub positionsAt : Bool → List ℕ → ℕ → List ℕ
+positionsAt strict s i = take (8 * restoredStream strict s i .pending) (listOf s i)
 
-abbrev pub putPositions : List ℕ → ℕ → List ℕ → List ℕ
-putPositions s i lists = putAt (listSize * i) (positionsAt s i) lists
+abbrev pub putPositions : Bool → List ℕ → ℕ → List ℕ → List ℕ
+putPositions strict s i lists = putAt (listSize * i) (positionsAt strict s i) lists
 
-unfoldable pub restoredLists : List ℕ → List ℕ → List ℕ
-restoredLists s lists = eachOf always (putPositions s) streams 0 lists
+unfoldable pub restoredLists : Bool → List ℕ → List ℕ → List ℕ
+restoredLists strict s lists = eachOf always (putPositions strict s) streams 0 lists
 
 -- queues are empty, and open where the stream is to be
 abbrev pub restoredQueues : ℕ → ℕ → List ℕ → Bool → List Queue
@@ -73,10 +85,10 @@ abbrev pub restoredHost : List ℕ → Bool → Host → Host
 restoredHost s microphone h = hosts.host (h .playback) (h .capture) (h .downstream) (restoredQueues streams 0 s microphone)
 
 -- the device of the state with the later clock, which register 0x30 shows; no message is asserted
-unfoldable pub restoredDevice : List ℕ → Hda → Hda
-restoredDevice s d =
+unfoldable pub restoredDevice : Bool → List ℕ → Hda → Hda
+restoredDevice strict s d =
     let c = laterOf (d .clock) (clockAt s) in
-    hda (blockAt 6 s) (storeAt 4 walclk (shownOf c) (blockAt 262 s)) (linkAt s) (restoredStreams streams 0 s) c (d .microphone) (flagAt 5 s) false
+    hda (blockAt 6 s) (storeAt 4 walclk (shownOf c) (blockAt 262 s)) (linkAt s) (restoredStreams strict streams 0 s) c (d .microphone) (flagAt 5 s) false
 
 -- what restore leaves: its answer, and the lent lists
 pub record Restored : Type 0 where
@@ -91,19 +103,19 @@ abbrev pub refusedOf : ℕ → Hda → Host → List ℕ → Restored
 refusedOf number d h lists = restoredOut (answerOf number None d h) lists
 
 -- the number of a state on a device that passes the check
-abbrev pub numberOf : List ℕ → Hda → Host → ℕ
-numberOf s d h =
-    let number = stateNumber s (d .microphone) (d .config) in
+abbrev pub numberOf : Bool → List ℕ → Hda → Host → ℕ
+numberOf strict s d h =
+    let number = stateNumber strict s (d .microphone) (d .config) in
     cond (eqb number 0) (openingNumber s (d .microphone) h) number
 
 -- accepted: the change, then the interrupt
-abbrev pub acceptedOf : List ℕ → Hda → Host → List ℕ → Restored
-acceptedOf s d h lists = restoredOut (finishOf 0 (restoredDevice s d) (restoredHost s (d .microphone) h)) (restoredLists s lists)
+abbrev pub acceptedOf : Bool → List ℕ → Hda → Host → List ℕ → Restored
+acceptedOf strict s d h lists = restoredOut (finishOf 0 (restoredDevice strict s d) (restoredHost s (d .microphone) h)) (restoredLists strict s lists)
 
-unfoldable pub restoreStep : List ℕ → Hda → Host → List ℕ → Restored
-restoreStep s d h lists = cond (eqb (numberOf s d h) 0) (acceptedOf s d h lists) (refusedOf (numberOf s d h) d h lists)
+unfoldable pub restoreStep : Bool → List ℕ → Hda → Host → List ℕ → Restored
+restoreStep strict s d h lists = cond (eqb (numberOf strict s d h) 0) (acceptedOf strict s d h lists) (refusedOf (numberOf strict s d h) d h lists)
 
-unfoldable pub restoreOf : List ℕ → Hda → Host → List ℕ → ℕ → Restored
-restoreOf s d h lists queues =
+unfoldable pub restoreOf : Bool → List ℕ → Hda → Host → List ℕ → ℕ → Restored
+restoreOf strict s d h lists queues =
     let number = checkOf d h lists queues in
-    cond (eqb number 0) (restoreStep s d h lists) (refusedOf number d h lists)
+    cond (eqb number 0) (restoreStep strict s d h lists) (refusedOf number d h lists)

@@ -1,5 +1,5 @@
-// The call `restore`: a saved state takes the place of the device's own (document 01, "Numbers returned"; the Rust's `restore_state`). All tests come first, so that a
-// refusal changes nothing.
+// The calls `restore` and `restore_emptied`: a saved state takes the place of the device's own (document 01, "Numbers returned"; the Rust's `restore_state`; request T-09). All
+// tests come first, so that a refusal changes nothing. `strict` is true for the first, which refuses crowded lists, and false for the second, which empties them.
 use clock::Clock;
 use device::Answer;
 use device::Hda;
@@ -13,7 +13,7 @@ ghost use lib.ListN.{length};
 ghost use Rattle.stream.specs.Box.{streams};
 ghost use Rattle.stream.specs.Streams.{listSize};
 ghost use Rattle.host.specs.Hosts.{failsOf};
-ghost use Rattle.restore.specs.Restores.{opensOf, openingNumber, laterOf, restoredStreams, restoredLists, restoredQueues, restoredHost, restoredDevice, Fits, restoredOut, restoreStep, restoreOf};
+ghost use Rattle.restore.specs.Restores.{opensOf, openingNumber, laterOf, keptOf, restoredStreams, restoredLists, restoredQueues, restoredHost, restoredDevice, Fits, restoredOut, restoreStep, restoreOf};
 
 // Whether a stream of the state is to be open: it runs, and an input only on a device with a microphone.
 fn opens(state: &[u8], microphone: bool, index: usize) -> bool
@@ -68,10 +68,24 @@ fn later(own: Clock, other: Clock) -> Clock
     own
 }
 
+// A stream as it is put in force: with an empty list where its own is crowded and that is not refused.
+fn kept(strict: bool, s: Stream, list: &[u8]) -> Stream
+    requires { ⌜ 8 * s .pending ≤ length (now list) ⌝ }
+    ensures { λ r. ⌜ r ≡ keptOf strict s (now (list .entry)) ⌝ }
+{
+    if strict {
+        return s;
+    }
+    if s.uncrowded(list) {
+        return s;
+    }
+    s.emptied()
+}
+
 // The streams of a state.
-fn restored_streams(state: &[u8]) -> [Stream; STREAMS]
+fn restored_streams(strict: bool, state: &[u8]) -> [Stream; STREAMS]
     requires { ⌜ Fits (now state) ⌝ }
-    ensures { λ r. ⌜ r ≡ restoredStreams streams 0 (now (state .entry)) ⌝ }
+    ensures { λ r. ⌜ r ≡ restoredStreams strict streams 0 (now (state .entry)) ⌝ }
 {
     let fresh = Stream::fresh();
     let mut loaded = [fresh; STREAMS];
@@ -80,17 +94,18 @@ fn restored_streams(state: &[u8]) -> [Stream; STREAMS]
     let mut index = 0;
     while index < count {
         let s = record::load_stream(state, at);
-        loaded[index] = s;
-        at += record::NUMBERS + 8 * (s.pending as usize);
+        let start = at + record::NUMBERS;
+        loaded[index] = kept(strict, s, &state[start..]);
+        at = start + 8 * (s.pending as usize);
         index += 1;
     }
     loaded
 }
 
 // Their positions, each stream's at the start of its part of the lent lists; the rest of the lists stays.
-fn restore_lists(state: &[u8], lists: &mut [u8])
+fn restore_lists(strict: bool, state: &[u8], lists: &mut [u8])
     requires { ⌜ Fits (now state) × (listSize * streams ≤ length (now lists)) ⌝ }
-    ensures { λ _. ⌜ now (lists .exit) ≡ restoredLists (now (state .entry)) (now (lists .entry)) ⌝ }
+    ensures { λ _. ⌜ now (lists .exit) ≡ restoredLists strict (now (state .entry)) (now (lists .entry)) ⌝ }
 {
     let count = STREAMS;
     let mut at = record::HEAD;
@@ -98,9 +113,10 @@ fn restore_lists(state: &[u8], lists: &mut [u8])
     while index < count {
         let s = record::load_stream(state, at);
         let start = at + record::NUMBERS;
-        let end = start + 8 * (s.pending as usize);
+        let t = kept(strict, s, &state[start..]);
+        let end = start + 8 * (t.pending as usize);
         record::put(lists, Stream::LIST * index, &state[start..end]);
-        at = end;
+        at = start + 8 * (s.pending as usize);
         index += 1;
     }
 }
@@ -142,9 +158,9 @@ fn restored_host(state: &[u8], microphone: bool, host: Host) -> Host
 }
 
 // The device of the state, with the later clock, and no message asserted.
-fn restored_device(state: &[u8], hda: Hda) -> Hda
+fn restored_device(strict: bool, state: &[u8], hda: Hda) -> Hda
     requires { ⌜ Fits (now state) ⌝ }
-    ensures { λ r. ⌜ r ≡ restoredDevice (now (state .entry)) hda ⌝ }
+    ensures { λ r. ⌜ r ≡ restoredDevice strict (now (state .entry)) hda ⌝ }
 {
     let clock = later(hda.clock, record::load_clock(state));
     let mut regs = record::load_block(state, record::REGISTERS);
@@ -153,7 +169,7 @@ fn restored_device(state: &[u8], hda: Hda) -> Hda
         config: record::load_block(state, record::CONFIG),
         regs: regs,
         link: record::load_link(state),
-        streams: restored_streams(state),
+        streams: restored_streams(strict, state),
         clock: clock,
         microphone: hda.microphone,
         paused: state[5] == 1,
@@ -162,13 +178,13 @@ fn restored_device(state: &[u8], hda: Hda) -> Hda
 }
 
 // Behind the check: the state's tests, the openings, then the change.
-fn restore_step(hda: Hda, host: Host, lists: &mut [u8], state: &[u8]) -> Answer
+fn restore_step(strict: bool, hda: Hda, host: Host, lists: &mut [u8], state: &[u8]) -> Answer
     requires { ⌜ listSize * streams ≤ length (now lists) ⌝ }
-    ensures { λ r. ⌜ restoredOut r (now (lists .exit)) ≡ restoreStep (now (state .entry)) hda host (now (lists .entry)) ⌝ }
+    ensures { λ r. ⌜ restoredOut r (now (lists .exit)) ≡ restoreStep strict (now (state .entry)) hda host (now (lists .entry)) ⌝ }
 {
     let microphone = hda.microphone;
     let config = hda.config;
-    let number = parse::state_number(state, microphone, &config);
+    let number = parse::state_number(strict, state, microphone, &config);
     if number != 0 {
         return hda.answer(host, number);
     }
@@ -176,19 +192,26 @@ fn restore_step(hda: Hda, host: Host, lists: &mut [u8], state: &[u8]) -> Answer
     if opening != 0 {
         return hda.answer(host, opening);
     }
-    restore_lists(state, lists);
-    let d = restored_device(state, hda);
+    restore_lists(strict, state, lists);
+    let d = restored_device(strict, state, hda);
     let h = restored_host(state, microphone, host);
     d.finish(h, 0)
 }
 
 // A saved state in the place of the device's own.
-pub fn restore(hda: Hda, host: Host, lists: &mut [u8], queues: &[u8], state: &[u8]) -> Answer
-    ensures { λ r. ⌜ restoredOut r (now (lists .exit)) ≡ restoreOf (now (state .entry)) hda host (now (lists .entry)) (length (now (queues .entry))) ⌝ }
+pub fn restore(
+    strict: bool,
+    hda: Hda,
+    host: Host,
+    lists: &mut [u8],
+    queues: &[u8],
+    state: &[u8],
+) -> Answer
+    ensures { λ r. ⌜ restoredOut r (now (lists .exit)) ≡ restoreOf strict (now (state .entry)) hda host (now (lists .entry)) (length (now (queues .entry))) ⌝ }
 {
     let number = hda.check(host, lists, queues.len());
     if number != 0 {
         return hda.answer(host, number);
     }
-    restore_step(hda, host, lists, state)
+    restore_step(strict, hda, host, lists, state)
 }

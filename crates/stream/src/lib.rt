@@ -1,9 +1,9 @@
 // A stream: its record, its direction, and its position update (document 01, "Stream transfer"; the Rust's `Stream`, `update_position`).
 ghost use mathlib.Core.Path.{_≡_};
-ghost use Prim.Native.Nat.{_≤_};
+ghost use Prim.Native.Nat.{_*_, _≤_};
 ghost use lib.ListN.{length};
 ghost use Rattle.stream.specs.Box.{captures};
-ghost use Rattle.stream.specs.Streams.{places, listSize, freshOf, validOf};
+ghost use Rattle.stream.specs.Streams.{places, listSize, freshOf, validOf, uncrowdedOf, emptiedOf};
 ghost use Rattle.stream.specs.Update.{leftOf, updateOf};
 
 // Streams of the box: the first half captures, the second half plays.
@@ -82,6 +82,33 @@ impl Stream {
             return false;
         }
         self.fraction < 8_193_000_000_000
+    }
+
+    // Whether the stream's list is not crowded: number 20 refuses a saved state where it is.
+    pub fn uncrowded(self, list: &[u8]) -> bool
+        requires { ⌜ 8 * self .pending ≤ length (now list) ⌝ }
+        ensures { λ r. ⌜ r ≡ uncrowdedOf self (now (list .entry)) ⌝ }
+    {
+        positions::spaced(
+            list,
+            self.pending as usize,
+            self.offset as u64,
+            self.submitted,
+        )
+    }
+
+    // The stream with an empty list.
+    pub fn emptied(self) -> Stream
+        ensures { λ r. ⌜ r ≡ emptiedOf self ⌝ }
+    {
+        Stream {
+            descriptor: self.descriptor,
+            offset: self.offset,
+            submitted: self.submitted,
+            consumed: self.consumed,
+            fraction: self.fraction,
+            pending: 0,
+        }
     }
 
     // Moves consumed up to submitted less `latency`, and retires the completions up to it.

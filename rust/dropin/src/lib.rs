@@ -85,6 +85,13 @@ impl Hda {
     pub fn pin_presence_changed(&mut self, node: u8) {
         self.with_memory(|machine, memory| machine.pin_presence_changed(memory, u32::from(node)));
     }
+
+    /// As `restore_state` of [`Snapshot`], for a stored state that it refuses since completions stand too close: each such list is emptied, and nothing else changes. These
+    /// completions are lost, so it is no call to make unasked: the guest gets no interrupt for them.
+    pub fn restore_state_emptied(&mut self, state: &[u8]) -> Result<(), DeviceError> {
+        let answer = self.machine.restore_emptied(state);
+        state_result(self.deliver(answer))
+    }
 }
 
 /// The host's sound driver's side. Frames are 4 bytes; the format is the stream's.
@@ -128,7 +135,7 @@ fn result(answer: Answer) -> Result<Answer, DeviceError> {
     Err(DeviceError::Other(error.into()))
 }
 
-/// The error of a refused state, as the Rust has it; of its format word the number does not tell which.
+/// The error of a refused state, as the Rust has it; of its format word the number does not tell which. Crowded lists the Rust takes.
 fn state_error(number: u8) -> DeviceError {
     let error = match number {
         number::HOST_CLOSED => return DeviceError::Other("host closed".into()),
@@ -139,9 +146,18 @@ fn state_error(number: u8) -> DeviceError {
         number::LIST_LENGTH => "invalid HDA completion count",
         number::LIST_ORDER => "invalid HDA completion position",
         number::STREAM => "invalid HDA stream state",
+        number::CROWDED => "crowded HDA completion positions",
         _ => "invalid HDA snapshot state",
     };
     DeviceError::State(error.into())
+}
+
+/// What a restore has answered.
+fn state_result(answer: Answer) -> Result<(), DeviceError> {
+    match answer.number {
+        number::DONE => Ok(()),
+        refused => Err(state_error(refused)),
+    }
 }
 
 impl Snapshot for Hda {
@@ -155,10 +171,7 @@ impl Snapshot for Hda {
     }
     fn restore_state(&mut self, state: &[u8]) -> Result<(), DeviceError> {
         let answer = self.machine.restore(state);
-        match self.deliver(answer).number {
-            number::DONE => Ok(()),
-            refused => Err(state_error(refused)),
-        }
+        state_result(self.deliver(answer))
     }
 }
 

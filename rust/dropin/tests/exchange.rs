@@ -303,9 +303,13 @@ fn original(memory: GuestMemory, wires: Arc<Wires>) -> Box<dyn Sound> {
     Box::new(Original(device, backend))
 }
 
-fn dropped_in(memory: GuestMemory, wires: Arc<Wires>) -> Box<dyn Sound> {
+fn proved(memory: GuestMemory, wires: Arc<Wires>) -> dropin::Hda {
     // The test's only other use of the memory is between calls.
-    Box::new(unsafe { dropin::Hda::new("hda", memory, wires.clone(), Some(wires), true) }.unwrap())
+    unsafe { dropin::Hda::new("hda", memory, wires.clone(), Some(wires), true) }.unwrap()
+}
+
+fn dropped_in(memory: GuestMemory, wires: Arc<Wires>) -> Box<dyn Sound> {
+    Box::new(proved(memory, wires))
 }
 
 #[test]
@@ -323,14 +327,16 @@ fn the_two_are_exchanged_and_nothing_shows() {
     }
 }
 
+/// A device with its memory and wires.
+fn made<D>(make: impl Fn(GuestMemory, Arc<Wires>) -> D) -> (D, GuestMemory, Arc<Wires>) {
+    let memory = GuestMemory::from_ranges(&[(GuestAddress(0), MEMORY)]).unwrap();
+    let wires = Arc::new(Wires::default());
+    (make(memory.clone(), wires.clone()), memory, wires)
+}
+
 /// Either takes what the other saved: a guest can be moved from one to the other, and back.
 #[test]
 fn states_are_exchanged() {
-    let made = |make: fn(GuestMemory, Arc<Wires>) -> Box<dyn Sound>| {
-        let memory = GuestMemory::from_ranges(&[(GuestAddress(0), MEMORY)]).unwrap();
-        let wires = Arc::new(Wires::default());
-        (make(memory.clone(), wires.clone()), memory, wires)
-    };
     for [from, to] in [[original, dropped_in], [dropped_in, original]] {
         let ((mut from, memory, wires), (mut to, _, _)) = (made(from), made(to));
         scenario(&mut *from, &memory, &wires, false);
@@ -338,6 +344,42 @@ fn states_are_exchanged() {
         to.restore_state(&state).unwrap();
         assert!(to.save_state().unwrap() == state);
     }
+}
+
+/// A state whose playback has all but 2,048 bytes consumed and these completions pending, counted backwards from the place where its present descriptor began.
+fn with_completions(state: &[u8], before: &[u64]) -> Vec<u8> {
+    let number = |place: usize| u64::from_le_bytes(state[place..place + 8].try_into().unwrap());
+    let playback = 714 + 8 * (number(710) as u32) as usize;
+    let (offset, submitted) = (u64::from(number(playback + 2) as u32), number(playback + 6));
+    let mut edited = state[..playback + 34].to_vec();
+    edited[playback + 14..][..8].copy_from_slice(&(submitted - 2048).to_le_bytes());
+    edited[playback + 30..].copy_from_slice(&(before.len() as u32).to_le_bytes());
+    edited.extend(before.iter().flat_map(|bytes| (submitted - offset - bytes).to_le_bytes()));
+    edited
+}
+
+/// The Rust's device takes completions a byte apart, and saves them again. The drop-in refuses that state and stays as it was; by a method of its own it takes the state with
+/// that list emptied.
+#[test]
+fn crowded_completions_of_the_rust_are_emptied() {
+    let ((mut from, memory, wires), (mut to, _, _)) = (made(original), made(proved));
+    scenario(&mut *from, &memory, &wires, false);
+    let state = from.save_state().unwrap();
+    let [spaced, close] = [[4, 0], [1, 0]].map(|before| with_completions(&state, &before));
+    from.restore_state(&close).unwrap();
+    assert!(from.save_state().unwrap() == close);
+    let before = to.save_state().unwrap();
+    let refused = format!("{:?}", to.restore_state(&close));
+    assert_eq!(refused, "Err(State(\"crowded HDA completion positions\"))");
+    assert!(to.restore_state_emptied(&close[1..]).is_err());
+    assert!(to.save_state().unwrap() == before);
+    to.restore_state_emptied(&close).unwrap();
+    assert!(to.save_state().unwrap() == with_completions(&state, &[]) && to.machine().open(Stream::Playback));
+    // A list that is not crowded stays, by either method.
+    to.restore_state_emptied(&spaced).unwrap();
+    assert!(to.save_state().unwrap() == spaced);
+    to.restore_state(&spaced).unwrap();
+    assert!(to.save_state().unwrap() == spaced);
 }
 
 #[test]

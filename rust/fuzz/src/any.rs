@@ -1,6 +1,7 @@
 //! Any call on any bytes, for tests of what calls refuse: records of any length and content, spaces of any length. Those on WAV files, which are handed none of
 //! these, are in [`crate::takes`].
-use port::layout::{DEVICE, HOST, LIST, LISTS, MAX_DOWNSTREAM, POSITIONS, QUEUE, QUEUES, STREAMS, device, get, host, stream};
+use crate::states::Crowded;
+use port::layout::{DEVICE, HOST, LIST, LISTS, MAX_DOWNSTREAM, POSITIONS, QUEUE, QUEUES, STATE, STREAMS, device, get, host, stream};
 use port::{Machine, Reply, calls, number};
 
 /// All that calls can be lent. A call uses what it is handed; `buffer` is what it reads into, writes from, saves into, restores, feeds or pulls.
@@ -29,6 +30,7 @@ impl Lent {
     }
 
     /// Document 01's 10 or 9 that a call gives before anything else, written from its text ("Numbers returned"); save's own 10 and restore's own 9 are another matter.
+    /// That a list is crowded is none of its conditions: only a state is asked for that.
     pub fn refusal(&self, handed: Handed) -> Option<u8> {
         let short_queues = self.queues.len() < QUEUES;
         let short = short_queues || self.lists.len() < LISTS;
@@ -44,6 +46,24 @@ impl Lent {
     /// Whether device and host end are records at all: then the device has an INTx level.
     pub fn are_records(&self) -> bool {
         is_device(&self.device) && is_host(&self.host)
+    }
+
+    /// A guest's write of a value's low bytes, which are then in the buffer.
+    pub fn write(&mut self, offset: u64, width: usize, value: u64) -> Reply {
+        self.buffer = value.to_le_bytes()[..width].to_vec();
+        Call::Write(offset).make(self)
+    }
+
+    /// The bytes that a valid machine's state has.
+    pub fn saved_bytes(&self) -> usize {
+        STATE + (0..STREAMS).map(|index| 8 * get::<4>(&self.device, device::stream(index) + stream::PENDING) as usize).sum::<usize>()
+    }
+
+    /// A valid machine's state.
+    pub fn saved(&self) -> Vec<u8> {
+        let mut saved = Self { buffer: vec![0; self.saved_bytes()], ..self.clone() };
+        Call::Save.make(&mut saved);
+        saved.buffer
     }
 }
 
@@ -110,6 +130,7 @@ pub enum Call {
     SetPaused(bool),
     Save,
     Restore,
+    RestoreEmptied,
     Feed,
     Pull,
     SetPlaybackFails(bool),
@@ -148,7 +169,7 @@ fn is_same_from(before: &[u8], after: &[u8], place: usize) -> bool {
 
 impl Call {
     /// Every call once.
-    pub const EACH: [Self; 18] = [
+    pub const EACH: [Self; 19] = [
         Self::New(true),
         Self::HostNew,
         Self::Advance(1_000_000),
@@ -162,6 +183,7 @@ impl Call {
         Self::SetPaused(true),
         Self::Save,
         Self::Restore,
+        Self::RestoreEmptied,
         Self::Feed,
         Self::Pull,
         Self::SetPlaybackFails(true),
@@ -178,6 +200,15 @@ impl Call {
         }
     }
 
+    /// What becomes of crowded lists, where the call takes a state; none of every other call.
+    pub fn crowded(self) -> Option<Crowded> {
+        match self {
+            Self::Restore => Some(Crowded::Refused),
+            Self::RestoreEmptied => Some(Crowded::Emptied),
+            _ => None,
+        }
+    }
+
     /// Whether a call that gave `reply` has changed only what docs/LAYOUT.md says: the slices marked `*`, lists and queues no further than their least lengths, and of the
     /// buffer that a pull or a save writes no more than it counts.
     pub fn keeps_the_rest(self, reply: Reply, before: &Lent, after: &Lent) -> bool {
@@ -191,7 +222,7 @@ impl Call {
             Self::ConfigRead(_) => none,
             Self::ConfigWrite(..) | Self::PinPresenceChanged(_) => Changes { device: true, memory: true, ..none },
             Self::Save => Changes { buffer: reply.value() as usize, ..none },
-            Self::Restore => Changes { device: true, host: true, lists: true, ..none },
+            Self::Restore | Self::RestoreEmptied => Changes { device: true, host: true, lists: true, ..none },
             Self::Feed => Changes { host: true, queues: true, ..none },
             Self::Pull => Changes { host: true, queues: true, buffer: 4 * reply.value() as usize, ..none },
         };
@@ -220,6 +251,7 @@ impl Call {
             Self::SetPaused(paused) => calls::set_paused(device, host, lists, queues, paused),
             Self::Save => calls::save(device, host, lists, queues, buffer),
             Self::Restore => calls::restore(device, host, lists, queues, buffer),
+            Self::RestoreEmptied => calls::restore_emptied(device, host, lists, queues, buffer),
             Self::Feed => calls::feed(host, queues, buffer),
             Self::Pull => calls::pull(host, queues, buffer),
             Self::SetPlaybackFails(fails) => calls::set_playback_fails(host, queues, fails),

@@ -1,9 +1,12 @@
 //! fuzz SEED ROUNDS: calls of any kind in any order on bytes of any length and content, most of them near a valid machine's.
 //!
 //! After each call: the number is one that document 01 gives here, 9 and 10 exactly where its conditions say so; a refusal has changed no byte, and any call only what
-//! docs/LAYOUT.md says; a machine that a call accepted is still valid; a restored machine is the one that document 01 says. A call on a take returns and leaves exactly what
+//! docs/LAYOUT.md says; a machine that a call accepted is still valid; a restored machine is the one that document 01 says, or T-09 for crowded lists. After a new device and
+//! after an accepted state no list gets crowded, whatever is called, and what is then saved is not refused as such. A call on a take returns and leaves exactly what
 //! T-02 says. Round R of a seed is round 0 of seed + R. That a call returns is seen by the run's end.
 mod files;
+mod running;
+mod stored;
 
 use fuzz::any::{Call, Handed, Lent, is_valid_downstream};
 use fuzz::{states, takes};
@@ -13,8 +16,9 @@ use random::Random;
 use std::collections::BTreeMap;
 use std::process::ExitCode;
 
-/// Calls of a round on a machine, and on takes.
+/// Calls of a round on a machine, on one that runs, and on takes.
 const CALLS: usize = 40;
+const RUNNING: usize = 20;
 const TAKES: usize = 20;
 
 fn main() -> ExitCode {
@@ -23,23 +27,41 @@ fn main() -> ExitCode {
         eprintln!("fuzz SEED ROUNDS");
         return ExitCode::from(2);
     };
-    let mut seen = BTreeMap::new();
+    let mut seen = Seen::default();
     for round in 0..rounds {
         let seed = seed.wrapping_add(round);
-        if let Err(error) = play(seed, &mut seen).and_then(|()| play_takes(seed, &mut seen)) {
-            println!("fuzz {seed} 1: {error}");
-            return ExitCode::FAILURE;
+        for play in [play, play_running, play_takes] {
+            if let Err(error) = play(seed, &mut seen) {
+                println!("fuzz {seed} 1: {error}");
+                return ExitCode::FAILURE;
+            }
         }
     }
-    for (name, count) in &seen {
+    for (name, count) in &seen.calls {
         println!("{count:>9}  {name}");
     }
-    println!("{rounds} rounds, {} calls", seen.values().sum::<u64>());
+    println!("{:>9}  positions put into lists that were not crowded, and are not", seen.added);
+    println!("{rounds} rounds, {} calls", seen.calls.values().sum::<u64>());
     ExitCode::SUCCESS
 }
 
+/// What a run met.
+#[derive(Default)]
+struct Seen {
+    /// Calls by kind and number.
+    calls: BTreeMap<String, u64>,
+    /// Positions that calls put into lists that were not crowded.
+    added: u64,
+}
+
+impl Seen {
+    fn count(&mut self, name: String) {
+        *self.calls.entry(name).or_default() += 1;
+    }
+}
+
 /// One round: a machine, and calls on it, with bytes changed between them.
-fn play(seed: u64, seen: &mut BTreeMap<String, u64>) -> Result<(), String> {
+fn play(seed: u64, seen: &mut Seen) -> Result<(), String> {
     let mut random = Random::new(seed);
     let mut lent = start(&mut random);
     for _ in 0..CALLS {
@@ -48,18 +70,62 @@ fn play(seed: u64, seen: &mut BTreeMap<String, u64>) -> Result<(), String> {
         }
         let call = call(&mut random);
         refill(&mut random, &mut lent, call);
-        let copy = exact(&lent);
-        let before = std::mem::replace(&mut lent, copy);
-        let reply = call.make(&mut lent);
-        let kind = if call == Call::Restore { "Restore".into() } else { format!("{:?}", call.handed()) };
-        *seen.entry(format!("{kind} gave {}", reply.number())).or_default() += 1;
-        check(call, reply, &before, &lent).map_err(|error| format!("{call:?} returned {:#x}: {error}", reply.0))?;
+        make(call, &mut lent, seen)?;
     }
     Ok(())
 }
 
+/// A round on a machine that runs, of which no record is damaged. As with takes, its random numbers are others.
+fn play_running(seed: u64, seen: &mut Seen) -> Result<(), String> {
+    let mut random = Random::new(seed.rotate_left(32));
+    let mut lent = running::start(&mut random);
+    for _ in 0..RUNNING {
+        let call = running::next(&mut random, &mut lent);
+        if states::has_crowded_list(&lent) {
+            return Err(format!("a list is crowded before {call:?}"));
+        }
+        make(call, &mut lent, seen)?;
+    }
+    Ok(())
+}
+
+/// Makes a call and checks all that it gave and left.
+fn make(call: Call, lent: &mut Lent, seen: &mut Seen) -> Result<(), String> {
+    let copy = exact(lent);
+    let before = std::mem::replace(lent, copy);
+    let reply = call.make(lent);
+    check(call, reply, &before, lent)
+        .and_then(|()| check_apart(call, reply, &before, lent, seen))
+        .map_err(|error| format!("{call:?} returned {:#x}: {error}", reply.0))?;
+    seen.count(name(call, reply, &before, lent));
+    Ok(())
+}
+
+/// How a call is counted: by what it is handed; one that takes a state by itself, with the lists that it emptied.
+fn name(call: Call, reply: Reply, before: &Lent, after: &Lent) -> String {
+    let number = reply.number();
+    match call {
+        Call::RestoreEmptied if number == number::DONE => {
+            format!("{call:?} gave {number}, lists emptied: {}", emptied_lists(before, after))
+        }
+        Call::Restore | Call::RestoreEmptied => format!("{call:?} gave {number}"),
+        _ => format!("{:?} gave {number}", call.handed()),
+    }
+}
+
+/// Lists of an accepted state that the machine has in another length: they were emptied.
+fn emptied_lists(before: &Lent, after: &Lent) -> usize {
+    let mut numbers = device::stream(0);
+    let is_emptied = |index: &usize| {
+        let stored = get::<4>(&before.buffer, numbers + stream::PENDING);
+        numbers += device::STREAM + 8 * stored as usize;
+        stored != get::<4>(&after.device, device::stream(*index) + stream::PENDING)
+    };
+    (0..STREAMS).filter(is_emptied).count()
+}
+
 /// A round's calls on takes. Their random numbers are others, so that a seed's calls on a machine are what they were without these.
-fn play_takes(seed: u64, seen: &mut BTreeMap<String, u64>) -> Result<(), String> {
+fn play_takes(seed: u64, seen: &mut Seen) -> Result<(), String> {
     let mut random = Random::new(!seed);
     for _ in 0..TAKES {
         let (call, before) = files::call(&mut random);
@@ -67,7 +133,7 @@ fn play_takes(seed: u64, seen: &mut BTreeMap<String, u64>) -> Result<(), String>
         assert_exact([&lent.given, &lent.into]);
         let reply = call.make(&mut lent);
         let kind = if call == takes::Call::Read { "read" } else { "write" };
-        *seen.entry(format!("Wav {kind} gave {}", reply.number())).or_default() += 1;
+        seen.count(format!("Wav {kind} gave {}", reply.number()));
         let (expected, after) = call.expected(&before);
         if (reply, &lent) != (expected, &after) {
             let what = if reply == expected { "other bytes than T-02 says".into() } else { format!("not {:#x}", expected.0) };
@@ -92,7 +158,7 @@ fn assert_exact<const N: usize>(parts: [&Vec<u8>; N]) {
 fn check(call: Call, reply: Reply, before: &Lent, after: &Lent) -> Result<(), String> {
     let is = |holds: bool, what: &str| if holds { Ok(()) } else { Err(what.to_string()) };
     is(reply.0 >> 10 & 0x3f_ffff == 0, "a bit that means nothing is set")?;
-    is(reply.number() == expected(call, before, reply), "not the number of document 01")?;
+    is(reply.number() == expected(call, before, reply), "not the number of document 01 or T-09")?;
     let (number, handed) = (reply.number(), call.handed());
     let accepted = number == number::DONE || number == number::HOST_CLOSED;
     is(accepted || before == after, "a refusal changed a byte")?;
@@ -110,16 +176,47 @@ fn check(call: Call, reply: Reply, before: &Lent, after: &Lent) -> Result<(), St
         !accepted || handed == Handed::NewDevice || handed == Handed::NewHost || after.refusal(handed).is_none(),
         "the machine is no longer valid",
     )?;
-    is(call != Call::Restore || number != number::DONE || is_restored(before, after), "not the machine of the state")?;
+    is(number != number::DONE || is_restored(call, before, after), "not the machine of the state")?;
     is(call.keeps_the_rest(reply, before, after), "more changed than the call may change")
 }
 
-fn is_restored(before: &Lent, after: &Lent) -> bool {
-    let [expected, found] = [states::restored(before), Ok(after.clone())].map(|lent| lent.map(states::without_interrupts));
+/// Whether a call that took a state has left what it says; any other call takes none.
+fn is_restored(call: Call, before: &Lent, after: &Lent) -> bool {
+    let Some(crowded) = call.crowded() else { return true };
+    let [expected, found] = [states::restored(before, crowded), Ok(after.clone())].map(|lent| lent.map(states::without_interrupts));
     expected == found
 }
 
-/// The number that document 01 gives. Only `advance` may be refused by the host, which depends on too much to be said here.
+/// A new device's lists are not crowded, nor are those of an accepted state, and no call crowds a list that was not. So restore does not refuse as crowded what is then saved.
+fn check_apart(call: Call, reply: Reply, before: &Lent, after: &Lent, seen: &mut Seen) -> Result<(), String> {
+    let starts = reply.number() == number::DONE && (matches!(call, Call::New(_)) || call.crowded().is_some());
+    let is_apart = |lent: &Lent| lent.refusal(Handed::Machine).is_none() && !states::has_crowded_list(lent);
+    if after.refusal(Handed::Machine).is_some() || !starts && !is_apart(before) {
+        return Ok(());
+    }
+    if !is_apart(after) {
+        return Err("a list is crowded now".into());
+    }
+    seen.added += if starts { 0 } else { added_positions(before, after) };
+    if after.saved_bytes() == STATE {
+        return Ok(());
+    }
+    let restored = Machine::new(after.device[device::MICROPHONE] == 1).restore(&after.saved()).number;
+    if restored == number::CROWDED { Err("the saved state is refused as crowded".into()) } else { Ok(()) }
+}
+
+/// Pending positions above what was submitted before.
+fn added_positions(before: &Lent, after: &Lent) -> u64 {
+    let added = |index: usize| {
+        let numbers = device::stream(index);
+        let submitted = get::<8>(&before.device, numbers + stream::SUBMITTED);
+        let pending = get::<4>(&after.device, numbers + stream::PENDING) as usize;
+        after.lists[LIST * index..][..8 * pending].chunks(8).filter(|position| get::<8>(position, 0) > submitted).count() as u64
+    };
+    (0..STREAMS).map(added).sum()
+}
+
+/// The number that document 01 or T-09 gives. Only `advance` may be refused by the host, which depends on too much to be said here.
 fn expected(call: Call, before: &Lent, reply: Reply) -> u8 {
     if let Some(number) = before.refusal(call.handed()) {
         return number;
@@ -128,14 +225,9 @@ fn expected(call: Call, before: &Lent, reply: Reply) -> u8 {
         Call::Advance(_) if reply.number() == number::HOST_CLOSED => number::HOST_CLOSED,
         Call::Feed | Call::Pull if !before.buffer.len().is_multiple_of(4) => number::ODD_FRAMES,
         Call::SetDownstream(bytes) if !is_valid_downstream(u64::from(bytes)) => number::LATENCY,
-        Call::Save if before.buffer.len() < saved_bytes(before) => number::LENT_SPACE,
-        Call::Restore => states::restored(before).map_or_else(|number| number, |_| number::DONE),
-        _ => number::DONE,
+        Call::Save if before.buffer.len() < before.saved_bytes() => number::LENT_SPACE,
+        _ => call.crowded().and_then(|crowded| states::restored(before, crowded).err()).unwrap_or(number::DONE),
     }
-}
-
-fn saved_bytes(lent: &Lent) -> usize {
-    STATE + (0..STREAMS).map(|index| 8 * get::<4>(&lent.device, device::stream(index) + stream::PENDING) as usize).sum::<usize>()
 }
 
 /// A machine near a valid one, or any bytes.
@@ -160,8 +252,7 @@ fn start(random: &mut Random) -> Lent {
     }
     for _ in 0..random.below(40) {
         let (offset, width, value) = driver_write(random, memory as u64);
-        lent.buffer = value.to_le_bytes()[..width].to_vec();
-        Call::Write(offset).make(&mut lent);
+        lent.write(offset, width, value);
     }
     if random.percent(60) {
         lay_streams(random, &mut lent);
@@ -211,12 +302,14 @@ fn lay_streams(random: &mut Random, lent: &mut Lent) {
         let numbers = device::stream(index);
         let count = random.weighted(&[(6, 0), (6, 3), (3, 200), (1, POSITIONS as u64), (1, POSITIONS as u64 + 1)]);
         let small = random.below(100_000);
-        let base = random.weighted(&[(6, 0), (3, small), (1, u64::MAX - 5000)]);
+        let base = random.weighted(&[(6, 0), (3, small), (1, u64::MAX - 20_000)]);
+        // A record may have a crowded list, which no call refuses.
+        let gap = random.weighted(&[(3, 4), (2, 1), (1, 3)]);
         put::<8>(&mut lent.device, numbers + stream::CONSUMED, base);
-        put::<8>(&mut lent.device, numbers + stream::SUBMITTED, base.saturating_add(count + random.below(30)));
+        put::<8>(&mut lent.device, numbers + stream::SUBMITTED, base.saturating_add(gap * count + random.below(30)));
         put::<4>(&mut lent.device, numbers + stream::PENDING, count);
         for place in 0..count.min(POSITIONS as u64) {
-            put::<8>(&mut lent.lists, LIST * index + 8 * place as usize, base.saturating_add(place + 1));
+            put::<8>(&mut lent.lists, LIST * index + 8 * place as usize, base.saturating_add(gap * (place + 1)));
         }
         if random.percent(20) {
             lent.host[host::open(index)] ^= 1;
@@ -291,6 +384,7 @@ fn call(random: &mut Random) -> Call {
         (1, Call::SetPaused(any & 7 == 0)),
         (3, Call::Save),
         (6, Call::Restore),
+        (4, Call::RestoreEmptied),
         (5, Call::Feed),
         (5, Call::Pull),
         (1, Call::SetPlaybackFails(any & 3 == 0)),
@@ -301,90 +395,17 @@ fn call(random: &mut Random) -> Call {
 
 /// A buffer for the call: of any length, for a save mostly about what it needs, for a restore mostly near a state.
 fn refill(random: &mut Random, lent: &mut Lent, call: Call) {
-    if call == Call::Restore {
-        lent.buffer = state(random, lent);
+    if call.crowded().is_some() {
+        lent.buffer = stored::state(random, lent);
         return;
     }
     let length = match call {
         Call::Save if lent.refusal(Handed::Machine).is_none() => {
-            let needed = saved_bytes(lent);
+            let needed = lent.saved_bytes();
             random.pick(&[needed, needed + 1, needed - 1, MAX_STATE, 0])
         }
         Call::Feed | Call::Pull => random.pick(&[0, 3, 4, 400, 2048, 2052, 4095]),
         _ => random.pick(&[0, 1, 1, 2, 4, 4, 4, 8, 17, 64, 300]),
     };
     lent.buffer = random.bytes(length);
-}
-
-/// The machine's own state or a new device's with a few fields changed, or any bytes.
-fn state(random: &mut Random, lent: &Lent) -> Vec<u8> {
-    if random.percent(8) {
-        let length = random.below(800) as usize;
-        return random.bytes(length);
-    }
-    let mut state = if random.percent(60) && lent.refusal(Handed::Machine).is_none() {
-        let mut saved = Lent { buffer: vec![0; saved_bytes(lent)], ..lent.clone() };
-        Call::Save.make(&mut saved);
-        saved.buffer
-    } else {
-        Machine::new(lent.device.get(device::MICROPHONE) != Some(&0)).saved().1
-    };
-    for _ in 0..random.below(5) {
-        change_state(random, &mut state);
-    }
-    // Last, what makes the places of fields uncertain.
-    match random.below(20) {
-        0 => state.truncate(random.below(state.len() as u64) as usize),
-        1 => state.push(random.byte()),
-        2 => {
-            let count = random.pick(&[1, 2, 4352, 4353, u64::from(u32::MAX)]);
-            put::<4>(&mut state, device::stream(0) + stream::PENDING, count);
-        }
-        _ => {}
-    }
-    state
-}
-
-/// One field of a whole state, mostly to what a device takes.
-fn change_state(random: &mut Random, state: &mut Vec<u8>) {
-    let index = random.below(2) as usize;
-    let registers = device::REGISTERS + 0x80 + 32 * index;
-    let first = get::<4>(state, device::stream(0) + stream::PENDING) as usize;
-    let numbers = device::stream(index) + 8 * first * index;
-    let (word, any) = (random.pick(&[0x0011, 0x4011, 0x5b11, 0x0911, 0, 0x2011]), random.next_u64());
-    let billions = random.pick(&[0, 999_999_999, 1_000_000_000, 8192 * 1_000_000_000, 8193 * 1_000_000_000 - 1, 8193 * 1_000_000_000]);
-    match random.below(13) {
-        0 => state[random.pick(&[device::MICROPHONE, device::PAUSED, device::PAUSED, 3])] = random.pick(&[0, 1, b'1', 2]),
-        1 => put::<2>(state, device::CODEC + 24 * random.pick(&[2, 4]) + 10, word),
-        2 => put::<2>(state, registers + 0x12, word),
-        3..6 => state[registers] = random.pick(&[2, 6, 0, 3]),
-        6 => put::<8>(state, device::TICKS, random.pick(&[0, any, u64::MAX])),
-        7 => put::<8>(state, device::REMAINDER, billions),
-        8 => put::<2>(state, device::RESPONSES, random.pick(&[0, 255, 256])),
-        9 => put::<2>(state, numbers + stream::DESCRIPTOR, random.pick(&[0, 255, 255, 256])),
-        10 => put::<8>(state, numbers + stream::TIME, billions),
-        11 => {
-            let place = random.below(device::stream(0) as u64) as usize;
-            state[place] = random.byte();
-        }
-        _ => lay_list(random, state, numbers),
-    }
-}
-
-/// Counts and positions of the stream whose numbers stand at a place, in the room that its list has there.
-fn lay_list(random: &mut Random, state: &mut Vec<u8>, numbers: usize) {
-    let (list, length) = (numbers + device::STREAM, 8 * get::<4>(state, numbers + stream::PENDING) as usize);
-    let count = random.pick(&[0, 1, 3, 40, 4352, 4353]);
-    let small = random.below(1000);
-    let consumed = random.pick(&[0, small, u64::MAX - 30_000]);
-    let mut positions: Vec<u64> = (1..=count).map(|place| consumed + 4 * place).collect();
-    put::<8>(state, numbers + stream::CONSUMED, consumed);
-    put::<8>(state, numbers + stream::SUBMITTED, consumed + 4 * count + random.below(3));
-    put::<4>(state, numbers + stream::PENDING, count);
-    if count > 0 && random.percent(20) {
-        let place = random.below(count) as usize;
-        positions[place] = random.pick(&[0, consumed, positions[place] - 4, positions[place] + 4, u64::MAX]);
-    }
-    let bytes = positions.iter().flat_map(|position| position.to_le_bytes());
-    state.splice(list..list + length, bytes);
 }

@@ -1,4 +1,5 @@
-//! Which saved states a device takes and what an accepted one leaves, for tests: written from document 01's text ("Numbers returned"), in its reading order.
+//! Which saved states a device takes and what an accepted one leaves, for tests: written from document 01's text ("Numbers returned"), in its reading order, and from
+//! request T-09's, which refuses crowded lists and has a call of its own for them.
 use crate::any::Lent;
 use port::layout::{LIST, POSITIONS, STREAMS, device, get, host, put, stream};
 use port::number;
@@ -12,17 +13,25 @@ const fn registers(index: usize) -> usize {
 /// Its format word, in a stream's registers.
 const FORMAT: usize = 0x12;
 
-/// What restore leaves of a machine that passes the check of every call, or the number by which the state in its buffer is refused.
+/// What becomes of crowded lists.
+#[derive(Clone, Copy, Debug, PartialEq, Eq)]
+pub enum Crowded {
+    /// Number 20, by restore.
+    Refused,
+    /// They are taken as empty ones, by the call for such states.
+    Emptied,
+}
+
+/// What the one or the other call leaves of a machine that passes the check of every call, or the number by which the state in its buffer is refused.
 ///
 /// Left out is what follows from the rest by the interrupt update at the end of the call: register 0x24, bit 3 of configuration byte 6, and whether a message was sent.
-pub fn restored(lent: &Lent) -> Result<Lent, u8> {
+pub fn restored(lent: &Lent, crowded: Crowded) -> Result<Lent, u8> {
     let mut reader = Reader(&lent.buffer);
     let mut after = lent.clone();
     let head = reader.head(lent.device[device::MICROPHONE])?;
     for index in 0..STREAMS {
         let (numbers, list) = reader.stream(index, &head[device::REGISTERS..])?;
-        after.device[device::stream(index)..][..device::STREAM].copy_from_slice(numbers);
-        after.lists[LIST * index..][..list.len()].copy_from_slice(list);
+        put_stream(&mut after, index, numbers, list, crowded)?;
     }
     let is_same_identity = head[device::CONFIG..][..4] == lent.device[device::CONFIG..][..4];
     let is_good = head[device::PAUSED] <= 1 && remainder(head) < 1_000_000_000 && get::<2>(head, device::RESPONSES) <= 255;
@@ -42,6 +51,36 @@ pub fn restored(lent: &Lent) -> Result<Lent, u8> {
     put::<8>(&mut after.device, device::REMAINDER, later.1);
     put::<4>(&mut after.device, device::REGISTERS + 0x30, later.0);
     Ok(after)
+}
+
+/// Puts a state's stream in the place of the machine's: 20. Of a list that is emptied no position is put.
+fn put_stream(after: &mut Lent, index: usize, numbers: &[u8], list: &[u8], crowded: Crowded) -> Result<(), u8> {
+    let record = &mut after.device[device::stream(index)..][..device::STREAM];
+    record.copy_from_slice(numbers);
+    if is_crowded(numbers, list) {
+        put::<4>(record, stream::PENDING, 0);
+        return is(crowded == Crowded::Emptied, number::CROWDED);
+    }
+    after.lists[LIST * index..][..list.len()].copy_from_slice(list);
+    Ok(())
+}
+
+/// Whether the list of a stream with these numbers is crowded: neighbours fewer than 4 apart, or the last with the descriptor offset above what was submitted. Sums have
+/// 128 bits, in which none wraps.
+pub fn is_crowded(numbers: &[u8], list: &[u8]) -> bool {
+    let positions: Vec<u128> = list.chunks_exact(8).map(|position| get::<8>(position, 0).into()).collect();
+    let [offset, submitted] = [get::<4>(numbers, stream::OFFSET), get::<8>(numbers, stream::SUBMITTED)].map(u128::from);
+    let are_close = positions.windows(2).any(|pair| pair[1] < pair[0] + 4);
+    are_close || positions.last().is_some_and(|last| last + offset > submitted)
+}
+
+/// Whether a list of a valid machine is crowded.
+pub fn has_crowded_list(lent: &Lent) -> bool {
+    (0..STREAMS).any(|index| {
+        let numbers = &lent.device[device::stream(index)..][..device::STREAM];
+        let pending = get::<4>(numbers, stream::PENDING) as usize;
+        is_crowded(numbers, &lent.lists[LIST * index..][..8 * pending])
+    })
 }
 
 /// A machine without what [`restored`] leaves out.

@@ -48,7 +48,7 @@ fn lent(machine: &Machine, call: Call) -> Lent {
     let mut lent = Lent::of(machine, MEMORY, if call == Call::Save { MAX_STATE } else { 8 });
     lent.memory.fill(0xdd);
     lent.buffer.fill(0xee);
-    if call == Call::Restore {
+    if call.crowded().is_some() {
         // A state that the device takes: what is refused is the machine.
         lent.buffer = machine.saved().1;
     }
@@ -295,7 +295,7 @@ fn spaces_that_are_longer_serve_as_well() {
 #[test]
 fn records_at_the_edge_of_the_conditions() {
     let machine = machine(true);
-    let edges: [fn(&mut Lent); 10] = [
+    let edges: [fn(&mut Lent); 12] = [
         |lent| put::<8>(&mut lent.device, device::REMAINDER, BILLION - 1),
         |lent| put::<2>(&mut lent.device, device::RESPONSES, 255),
         |lent| put::<2>(&mut lent.device, device::stream(1) + stream::DESCRIPTOR, 255),
@@ -303,6 +303,9 @@ fn records_at_the_edge_of_the_conditions() {
         |lent| put::<8>(&mut lent.device, device::TICKS, u64::MAX),
         |lent| lay_stream(&mut lent.device, &mut lent.lists, 0, u64::MAX, u64::MAX, &[]),
         |lent| lay_stream(&mut lent.device, &mut lent.lists, 1, 0, POSITIONS as u64, &(1..=POSITIONS as u64).collect::<Vec<_>>()),
+        // Crowded lists are no matter of records.
+        |lent| lay_stream(&mut lent.device, &mut lent.lists, 0, CONSUMED, SUBMITTED, &[70, 71, 74, 100]),
+        |lent| put::<4>(&mut lent.device, device::stream(1) + stream::OFFSET, u64::from(u32::MAX)),
         |lent| put::<4>(&mut lent.host, host::DOWNSTREAM, u64::from(MAX_DOWNSTREAM)),
         |lent| put::<4>(&mut lent.host, host::length(1), QUEUE as u64),
         |lent| lent.device[device::ASSERTED] = 1,

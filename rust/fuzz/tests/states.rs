@@ -1,20 +1,20 @@
-//! Restore on states that are cut, damaged or whole. A refusal gives document 01's number, the first in its reading order, and changes no lent byte; an accepted state
-//! leaves the records and lists that document 01 says, and every other byte as it was.
+//! Both calls that take a state on states that are cut, damaged or whole. A refusal gives document 01's number, or T-09's, the first in reading order, and changes no lent byte;
+//! an accepted state leaves the records and lists that they say, and every other byte as it was. Which lists are crowded is in crowded.rs.
 use fuzz::any::{Call, Lent};
 use fuzz::states;
 use port::layout::{LIST, POSITIONS, STATE, device, get, host, put, stream};
 use port::{Machine, Message, Reply, Stream, number};
 
 const BILLION: u64 = 1_000_000_000;
-/// Each stream's counts and positions in the state.
+/// Each stream's counts and positions in the state. The first's last position and offset reach up to what was submitted.
 const CONSUMED: u64 = 60;
-const SUBMITTED: u64 = 100;
-const PENDING: [&[u64]; 2] = [&[70, 80, 100], &[61, 99]];
+const SUBMITTED: u64 = 112;
+const PENDING: [[u64; 3]; 2] = [[70, 80, 100], [61, 75, 99]];
 const OFFSETS: [u64; 2] = [12, 4];
 /// Where each stream's numbers and its list stand in the state, and where they end.
 const NUMBERS: [usize; 2] = [680, 680 + 34 + 24];
 const LISTS: [usize; 2] = [NUMBERS[0] + 34, NUMBERS[1] + 34];
-const ENDS: [usize; 2] = [NUMBERS[1], LISTS[1] + 16];
+const ENDS: [usize; 2] = [NUMBERS[1], LISTS[1] + 24];
 /// A stream's registers in a state.
 const REGISTERS: [usize; 2] = [device::REGISTERS + 0x80, device::REGISTERS + 0xa0];
 const FORMAT: usize = 0x12;
@@ -72,13 +72,20 @@ fn restore(lent: &mut Lent) -> Reply {
     Call::Restore.make(lent)
 }
 
-/// The number, with nothing else: no byte changed, the level that was.
-fn refused(lent: &Lent, level: bool, what: &str) -> u8 {
+/// The call's number, with nothing else: no byte changed, the level that was.
+fn refused_by(call: Call, lent: &Lent, level: bool, what: &str) -> u8 {
     let mut after = lent.clone();
-    let reply = restore(&mut after);
-    assert_eq!((reply.level(), reply.sends(), reply.value()), (level, false, 0), "{what}");
-    assert!(reply.number() != number::DONE && after == *lent, "{what}: a refusal that changes nothing, {}", reply.number());
+    let reply = call.make(&mut after);
+    assert_eq!((reply.level(), reply.sends(), reply.value()), (level, false, 0), "{what}, {call:?}");
+    assert!(reply.number() != number::DONE && after == *lent, "{what}, {call:?}: a refusal that changes nothing, {}", reply.number());
     reply.number()
+}
+
+/// The number of a state that both calls refuse alike.
+fn refused(lent: &Lent, level: bool, what: &str) -> u8 {
+    let [number, other] = [Call::Restore, Call::RestoreEmptied].map(|call| refused_by(call, lent, level, what));
+    assert_eq!(number, other, "{what}: the call for crowded lists");
+    number
 }
 
 /// What a state gives that is cut to a length and right so far.
@@ -135,7 +142,7 @@ fn damages() -> Vec<Damage> {
     damages
 }
 
-/// 6, 7, 5, 8.
+/// 6, 7, 5, 8, 20.
 fn stream_damages(index: usize) -> Vec<Damage> {
     let (numbers, list, end) = (NUMBERS[index], LISTS[index], ENDS[index]);
     let mut damages = Vec::new();
@@ -159,7 +166,7 @@ fn stream_damages(index: usize) -> Vec<Damage> {
         number::LIST_ORDER,
         end,
         numbers + stream::SUBMITTED,
-        SUBMITTED - 2,
+        PENDING[index][2] - 1,
     ));
     damages.push(damage(format!("format {index} 0 of a running stream"), number::FORMAT, end, move |state| {
         state[REGISTERS[index]] = 2;
@@ -178,6 +185,23 @@ fn stream_damages(index: usize) -> Vec<Damage> {
     for time in [8193 * BILLION, u64::MAX] {
         damages.push(value::<8>(&format!("time {index}"), number::STREAM, end, numbers + stream::TIME, time));
     }
+    damages.extend(crowded_damages(index));
+    damages
+}
+
+/// 20: the second position close to one of its neighbours, or the last and the offset above what was submitted.
+fn crowded_damages(index: usize) -> Vec<Damage> {
+    let (numbers, list, end) = (NUMBERS[index], LISTS[index], ENDS[index]);
+    let [first, _, last] = PENDING[index];
+    let mut damages = Vec::new();
+    for position in [first + 1, first + 3, last - 3, last - 1] {
+        damages.push(value::<8>(&format!("position {index}.1"), number::CROWDED, end, list + 8, position));
+    }
+    for offset in [SUBMITTED - last + 1, u64::from(u32::MAX)] {
+        damages.push(value::<4>(&format!("offset {index}"), number::CROWDED, end, numbers + stream::OFFSET, offset));
+    }
+    let submitted = last + OFFSETS[index] - 1;
+    damages.push(value::<8>(&format!("submitted {index}"), number::CROWDED, end, numbers + stream::SUBMITTED, submitted));
     damages
 }
 
@@ -191,11 +215,12 @@ fn states_cut_anywhere() {
     }
 }
 
-/// A wrong value gives its number as soon as it can be read, and 2, or 6 in a list, before.
+/// A wrong value gives its number as soon as it can be read, and 2, or 6 in a list, before. The call for crowded lists reads on behind one, to the end.
 #[test]
 fn states_damaged_and_cut() {
-    let places: [usize; 27] =
-        [0, 4, 5, 6, 262, 518, 662, 670, 678, 680, 682, 686, 694, 702, 710, 714, 722, 738, 740, 744, 752, 760, 768, 772, 780, 788, 789];
+    let places: [usize; 28] = [
+        0, 4, 5, 6, 262, 518, 662, 670, 678, 680, 682, 686, 694, 702, 710, 714, 722, 738, 740, 744, 752, 760, 768, 772, 780, 788, 796, 797,
+    ];
     let whole = lent(true, true, &[]);
     for damage in damages() {
         let mut state = state();
@@ -205,14 +230,29 @@ fn states_damaged_and_cut() {
             if damage.read == ENDS[1] + 1 && length == ENDS[1] {
                 continue;
             }
-            let expected = if length < damage.read { cut(length) } else { damage.number };
-            let cut = Lent { buffer: state[..length].to_vec(), ..whole.clone() };
-            assert_eq!(refused(&cut, true, &damage.name), expected, "{} cut to {length}", damage.name);
+            let lent = Lent { buffer: state[..length].to_vec(), ..whole.clone() };
+            if length < damage.read {
+                assert_eq!(refused(&lent, true, &damage.name), cut(length), "{} cut to {length}", damage.name);
+            } else if damage.number != number::CROWDED {
+                assert_eq!(refused(&lent, true, &damage.name), damage.number, "{} cut to {length}", damage.name);
+            } else {
+                assert_eq!(refused_by(Call::Restore, &lent, true, &damage.name), number::CROWDED, "{} cut to {length}", damage.name);
+                emptied_or_cut(lent, length, &damage.name);
+            }
         }
     }
 }
 
-/// Of two wrong values the one that comes first in reading order is told; both switches come last.
+/// What the call for crowded lists makes of a state with such a list: it is taken where it is whole.
+fn emptied_or_cut(lent: Lent, length: usize, what: &str) {
+    if length == ENDS[1] {
+        accepted_by(Call::RestoreEmptied, lent);
+    } else {
+        assert_eq!(refused_by(Call::RestoreEmptied, &lent, true, what), cut(length), "{what} cut to {length}");
+    }
+}
+
+/// Of two wrong values the one that comes first in reading order is told; both switches come last. For the call for crowded lists such a list is none.
 #[test]
 fn states_damaged_twice() {
     let mut whole = lent(true, false, &[]);
@@ -226,7 +266,10 @@ fn states_damaged_twice() {
             (second.change)(&mut state);
             (first.change)(&mut state);
             let lent = Lent { buffer: state, ..whole.clone() };
-            assert_eq!(refused(&lent, false, &first.name), first.number, "{}, then {}", first.name, second.name);
+            let what = format!("{}, then {}", first.name, second.name);
+            let told = [first.number, second.number, number::HOST_CLOSED].into_iter().find(|number| *number != number::CROWDED);
+            assert_eq!(refused_by(Call::Restore, &lent, false, &what), first.number, "{what}");
+            assert_eq!(Some(refused_by(Call::RestoreEmptied, &lent, false, &what)), told, "{what}");
         }
     }
 }
@@ -262,13 +305,20 @@ fn refused_openings() {
     }
 }
 
-/// The machine that an accepted state leaves, after everything that document 01 says of it was compared.
-fn accepted(before: Lent) -> Lent {
+/// The machine that an accepted state leaves, after everything that document 01 and T-09 say of it was compared.
+fn accepted_by(call: Call, before: Lent) -> Lent {
     let mut after = before.clone();
-    let reply = restore(&mut after);
-    assert_eq!((reply.number(), reply.value()), (number::DONE, 0));
-    let expected = states::restored(&before).unwrap_or_else(|number| panic!("document 01 gives {number}"));
-    assert!(states::without_interrupts(after.clone()) == states::without_interrupts(expected));
+    let reply = call.make(&mut after);
+    assert_eq!((reply.number(), reply.value()), (number::DONE, 0), "{call:?}");
+    let expected = states::restored(&before, call.crowded().unwrap()).unwrap_or_else(|number| panic!("{call:?} is to give {number}"));
+    assert!(states::without_interrupts(after.clone()) == states::without_interrupts(expected), "{call:?}");
+    after
+}
+
+/// The machine that a state leaves which both calls take alike, to the last byte: none of its lists is crowded.
+fn accepted(before: Lent) -> Lent {
+    let [after, other] = [Call::Restore, Call::RestoreEmptied].map(|call| accepted_by(call, before.clone()));
+    assert!(after == other);
     after
 }
 
@@ -346,10 +396,10 @@ fn interrupts_after_a_restore() {
 #[test]
 fn full_lists() {
     let mut state = Machine::new(true).saved().1;
-    let list = |count: u64| (1..=count).flat_map(u64::to_le_bytes).collect::<Vec<u8>>();
+    let list = |count: u64| (1..=count).flat_map(|place| (4 * place).to_le_bytes()).collect::<Vec<u8>>();
     let full = POSITIONS as u64;
     for index in 0..2 {
-        put::<8>(&mut state, device::stream(index) + stream::SUBMITTED, full + 1);
+        put::<8>(&mut state, device::stream(index) + stream::SUBMITTED, 4 * (full + 1));
     }
     for counts in [[full, full], [full + 1, 0], [0, full + 1], [full, full + 1]] {
         let mut state = state.clone();

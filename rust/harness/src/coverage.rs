@@ -22,7 +22,8 @@ impl Coverage {
         self.ops += 1;
         self.count(&format!("op {}", op.kind()));
         match op {
-            Op::Restore(_) | Op::List { .. } => self.count(&format!("restore answered {}", answer.number)),
+            Op::Restore(_) | Op::RestoreList { .. } => self.count(&format!("restore answered {}", answer.number)),
+            Op::RestoreEmptied(state) => self.emptied(answer.number, state, after),
             Op::Feed(_) | Op::Pull(_) | Op::Downstream(_) | Op::Advance(_) if answer.number != 0 => {
                 self.count(&format!("{} answered {}", op.kind(), answer.number));
             }
@@ -40,6 +41,17 @@ impl Coverage {
         let (before, after) = (progress(before), progress(after));
         for direction in Direction::BOTH {
             self.stream(op, direction.name(), before[direction.index()], after[direction.index()]);
+        }
+    }
+
+    /// Counts what the separate call answered, and the lists of the state that it emptied or kept.
+    fn emptied(&mut self, number: u32, state: &[u8], after: &[u8]) {
+        self.count(&format!("restore-emptied answered {number}"));
+        if number != 0 {
+            return;
+        }
+        for (_, left) in progress(state).into_iter().zip(progress(after)).filter(|(handed, _)| handed.pending > 0) {
+            self.count(if left.pending == 0 { "list that restore-emptied emptied" } else { "list that restore-emptied kept" });
         }
     }
 
@@ -79,5 +91,27 @@ impl fmt::Display for Coverage {
             writeln!(f, "{count:>9}  {what}")?;
         }
         Ok(())
+    }
+}
+
+#[cfg(test)]
+mod tests {
+    use super::*;
+    use crate::device::Amended;
+    use crate::lockstep::{InStep, Lockstep};
+    use crate::state::{SPACING, State};
+
+    #[test]
+    fn refusals_of_crowded_lists_and_emptied_lists_are_counted() {
+        let mut sides = Lockstep::<Amended, Amended>::new();
+        let mut state = State::parse(&sides.step(&Op::Save).unwrap().bytes).unwrap();
+        state.streams.iter_mut().for_each(|stream| stream.fill(2, SPACING));
+        state.streams[1].pending[0] += 1;
+        sides.step(&Op::Restore(state.bytes())).unwrap();
+        sides.step(&Op::RestoreEmptied(state.bytes())).unwrap();
+        let lines = sides.coverage().to_string();
+        for line in ["1  restore answered 20", "1  list that restore-emptied emptied", "1  list that restore-emptied kept"] {
+            assert!(lines.contains(line), "{line}");
+        }
     }
 }

@@ -4,11 +4,12 @@
 //! What glue is not stands in host.rs.
 
 macro_rules! rust_side {
-    ($side:ident, $crate_name:ident, $differences:expr) => {
+    ($side:ident, $crate_name:ident, $restore_emptied:expr, $differences:expr) => {
         pub mod $side {
             use crate::differences::Differences;
             use crate::host::{HOST_CLOSED, HostEnd, Queue, Wires, number_of};
             use crate::side::{Direction, Interrupts, Message, Side, View, number};
+            use crate::state::Stream;
             use std::sync::Arc;
             use std::time::Duration;
             use vm_memory::{GuestAddress, GuestMemory as _};
@@ -153,9 +154,15 @@ macro_rules! rust_side {
                 fn restore(&mut self, state: &[u8]) -> u32 {
                     number(self.device.restore_state(state))
                 }
+                fn restore_emptied(&mut self, state: &[u8]) -> u32 {
+                    number($restore_emptied(&mut self.device, state))
+                }
 
                 fn close(&mut self, direction: Direction) {
                     self.device.probe_close(direction.index());
+                }
+                fn set_list(&mut self, direction: Direction, stream: &Stream) {
+                    self.device.probe_set_list(direction.index(), stream.submitted, stream.consumed, &stream.pending);
                 }
                 fn memory(&self) -> &[u8] {
                     // The mapping lives as long as self.memory, and no device runs while self is borrowed.
@@ -186,8 +193,8 @@ macro_rules! rust_side {
     };
 }
 
-rust_side!(unchanged, reference, Differences::default());
-rust_side!(edited, amended, Differences::from_bits(amended::differences::take()));
+rust_side!(unchanged, reference, Hda::restore_state, Differences::default());
+rust_side!(edited, amended, Hda::restore_emptied, Differences::from_bits(amended::differences::take()));
 
 /// The judge: the Rust as it is.
 pub type Reference = unchanged::Device;

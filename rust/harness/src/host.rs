@@ -154,6 +154,7 @@ pub fn number_of(error: &str) -> u32 {
         ("invalid HDA completion position", 7),
         ("invalid HDA stream state", 8),
         ("invalid HDA snapshot state", 9),
+        ("crowded HDA completions", number::CROWDED),
     ];
     let found = texts.iter().find(|(text, _)| error.contains(text));
     found.unwrap_or_else(|| panic!("the Rust gave an error that has no number: {error}")).1

@@ -2,10 +2,11 @@
 //! Lines that begin with `<` are results and lines that begin with `?` are expectations of a case; neither is a call.
 use crate::random::Random;
 use crate::side::{Answer, Direction, Side, View};
-use crate::state::State;
+use crate::state::{SPACING, State};
+use port::layout::POSITIONS;
 use std::fmt::{self, Write as _};
 
-/// One call. Those from `Poke` on are the harness's own, the others are calls of document 01.
+/// One call. Those from `Poke` on are the harness's own, the others are calls of document 01, and one of request T-09.
 #[derive(Clone, Debug, PartialEq, Eq)]
 pub enum Op {
     New {
@@ -38,6 +39,7 @@ pub enum Op {
     Downstream(u32),
     Save,
     Restore(Vec<u8>),
+    RestoreEmptied(Vec<u8>),
     /// Writes guest memory; out of range it does nothing and answers 1.
     Poke {
         address: u64,
@@ -52,8 +54,14 @@ pub enum Op {
     Noise(u64),
     /// Closes the host stream and keeps RUN.
     Close(Direction),
-    /// Saves, gives the stream a list of `count` positions, one apart and the last at submitted, and restores.
+    /// Gives the stream a list of `count` positions, one apart and the last at submitted, which no restore takes; where the lent bytes do not hold that many,
+    /// it does nothing and answers 1.
     List {
+        direction: Direction,
+        count: usize,
+    },
+    /// Saves, gives the stream a list of `count` positions, no farther apart than they must be, and restores.
+    RestoreList {
         direction: Direction,
         count: usize,
     },
@@ -80,11 +88,13 @@ impl Op {
             Self::Downstream(_) => "down",
             Self::Save => "save",
             Self::Restore(_) => "restore",
+            Self::RestoreEmptied(_) => "restore-emptied",
             Self::Poke { .. } => "poke",
             Self::Peek { .. } => "peek",
             Self::Noise(_) => "noise",
             Self::Close(_) => "close",
             Self::List { .. } => "list",
+            Self::RestoreList { .. } => "restore-list",
         }
     }
 
@@ -110,11 +120,13 @@ impl Op {
             "down" => Self::Downstream(words.number()? as u32),
             "save" => Self::Save,
             "restore" => Self::Restore(words.bytes()?),
+            "restore-emptied" => Self::RestoreEmptied(words.bytes()?),
             "poke" => Self::Poke { address: words.number()?, data: words.bytes()? },
             "peek" => Self::Peek { address: words.number()?, length: words.number()? as usize },
             "noise" => Self::Noise(words.number()?),
             "close" => Self::Close(words.direction()?),
             "list" => Self::List { direction: words.direction()?, count: words.number()? as usize },
+            "restore-list" => Self::RestoreList { direction: words.direction()?, count: words.number()? as usize },
             unknown => return Err(format!("unknown op {unknown}")),
         };
         words.end()?;
@@ -133,7 +145,7 @@ impl fmt::Display for Op {
             Self::ConfigWrite { register, offset, data } => write!(f, " {register} {offset} {}", hex(data)),
             Self::Pin(node) => write!(f, " {node}"),
             Self::Pause(paused) => write!(f, " {}", u8::from(*paused)),
-            Self::Feed(bytes) | Self::Restore(bytes) => write!(f, " {}", hex(bytes)),
+            Self::Feed(bytes) | Self::Restore(bytes) | Self::RestoreEmptied(bytes) => write!(f, " {}", hex(bytes)),
             Self::Pull(length) => write!(f, " {length}"),
             Self::Fail { direction, fails } => write!(f, " {} {}", direction.name(), u8::from(*fails)),
             Self::Downstream(bytes) => write!(f, " {bytes}"),
@@ -141,7 +153,7 @@ impl fmt::Display for Op {
             Self::Poke { address, data } => write!(f, " {address:#x} {}", hex(data)),
             Self::Peek { address, length } => write!(f, " {address:#x} {length}"),
             Self::Close(direction) => write!(f, " {}", direction.name()),
-            Self::List { direction, count } => write!(f, " {} {count}", direction.name()),
+            Self::List { direction, count } | Self::RestoreList { direction, count } => write!(f, " {} {count}", direction.name()),
         }
     }
 }
@@ -252,6 +264,7 @@ pub fn execute<S: Side>(side: &mut S, op: &Op) -> Answer {
             answer.value = answer.bytes.len() as u64;
         }
         Op::Restore(state) => answer.number = side.restore(state),
+        Op::RestoreEmptied(state) => answer.number = side.restore_emptied(state),
         Op::Poke { address, data } => match range(*address, data.len(), side.memory().len()) {
             Some(range) => side.memory_mut()[range].copy_from_slice(data),
             None => answer.number = 1,
@@ -262,20 +275,33 @@ pub fn execute<S: Side>(side: &mut S, op: &Op) -> Answer {
         },
         Op::Noise(seed) => Random::new(*seed).fill(side.memory_mut()),
         Op::Close(direction) => side.close(*direction),
-        Op::List { direction, count } => answer.number = restore_list(side, *direction, *count as u64),
+        Op::List { direction, count } => answer.number = set_list(side, *direction, *count),
+        Op::RestoreList { direction, count } => answer.number = restore_list(side, *direction, *count as u64),
     }
     answer.interrupts = side.take_interrupts();
     answer
 }
 
-/// Restores the side's own state with another list.
-fn restore_list<S: Side>(side: &mut S, direction: Direction, count: u64) -> u32 {
+/// Gives the side a list as crowded as it can be.
+fn set_list<S: Side>(side: &mut S, direction: Direction, count: usize) -> u32 {
+    if count > POSITIONS {
+        return 1;
+    }
     let (number, saved) = side.save();
     let Some(mut state) = State::parse(&saved) else { return number };
     let stream = &mut state.streams[direction.index()];
-    stream.submitted = stream.submitted.max(count);
-    stream.consumed = stream.submitted - count;
+    stream.submitted = stream.submitted.max(count as u64);
+    stream.consumed = stream.submitted - count as u64;
     stream.pending = (stream.consumed + 1..=stream.submitted).collect();
+    side.set_list(direction, stream);
+    number
+}
+
+/// Restores the side's own state with a list that is only just not crowded.
+fn restore_list<S: Side>(side: &mut S, direction: Direction, count: u64) -> u32 {
+    let (number, saved) = side.save();
+    let Some(mut state) = State::parse(&saved) else { return number };
+    state.streams[direction.index()].fill(count, SPACING);
     side.restore(&state.bytes())
 }
 
@@ -325,6 +351,7 @@ fn digest(start: u64, bytes: &[u8]) -> u64 {
 mod tests {
     use super::*;
     use crate::generate::Generator;
+    use crate::ported::Port;
 
     #[test]
     fn what_is_printed_is_read_back() {
@@ -333,6 +360,22 @@ mod tests {
                 assert_eq!(Op::parse(&op.to_string()), Ok(Some(op)));
             }
         }
+    }
+
+    #[test]
+    fn restores_and_lists_are_read_and_printed() {
+        for line in ["restore 0a", "restore-emptied 0b", "restore-emptied -", "list playback 3", "restore-list capture 4"] {
+            assert_eq!(Op::parse(line).map(|op| op.unwrap().to_string()), Ok(line.into()));
+        }
+    }
+
+    #[test]
+    fn a_device_takes_no_longer_list_than_its_bytes_hold() {
+        let (mut port, direction) = (Port::new(true, 4096), Direction::Capture);
+        let lists = [POSITIONS, POSITIONS + 1].map(|count| Op::List { direction, count });
+        let restored = [POSITIONS, POSITIONS + 1].map(|count| Op::RestoreList { direction, count });
+        assert_eq!(lists.map(|op| execute(&mut port, &op).number), [0, 1]);
+        assert_eq!(restored.map(|op| execute(&mut port, &op).number), [0, 6]);
     }
 
     #[test]

@@ -1,6 +1,7 @@
 //! The side over the port's C functions.
 use crate::side::{Direction, Interrupts, Message, Side, View, number};
-use port::layout::{host, put};
+use crate::state;
+use port::layout::{LIST, device, host, put, stream};
 use port::{Answer, Bytes, Machine, Stream};
 
 pub struct Port {
@@ -96,11 +97,26 @@ impl Side for Port {
         let answer = self.machine.restore(state);
         self.told(answer)
     }
+    fn restore_emptied(&mut self, state: &[u8]) -> u32 {
+        let answer = self.machine.restore_emptied(state);
+        self.told(answer)
+    }
 
     fn close(&mut self, direction: Direction) {
         self.change(|bytes| {
             bytes.host[host::open(direction.index())] = 0;
             put::<4>(&mut bytes.host, host::length(direction.index()), 0);
+        });
+    }
+    fn set_list(&mut self, direction: Direction, with: &state::Stream) {
+        let (index, numbers) = (direction.index(), device::stream(direction.index()));
+        self.change(|bytes| {
+            put::<8>(&mut bytes.device, numbers + stream::SUBMITTED, with.submitted);
+            put::<8>(&mut bytes.device, numbers + stream::CONSUMED, with.consumed);
+            put::<4>(&mut bytes.device, numbers + stream::PENDING, with.pending.len() as u64);
+            for (place, position) in with.pending.iter().enumerate() {
+                put::<8>(&mut *bytes.lists, LIST * index + 8 * place, *position);
+            }
         });
     }
     fn memory(&self) -> &[u8] {

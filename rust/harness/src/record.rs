@@ -5,8 +5,8 @@
 //! of the room and of all that device and host end hold, in the layout of docs/LAYOUT.md, or that of guest memory for the kind that looks at it.
 //!
 //! The unchanged Rust answers up to the first call of a sequence at which a difference makes it part; from there on the amended oracle does, and each
-//! such call says so. States are restored as the generator has them, and at times the device's own: damaged, so that every number is among the answers, then
-//! as it is.
+//! such call says so. States are restored as the generator has them, and at times the device's own: damaged, by both calls that restore, so that every
+//! number is among the answers, then as it is.
 use crate::device::{Amended, Reference};
 use crate::generate::Generator;
 use crate::ops::{Op, execute};
@@ -30,6 +30,7 @@ mod kind {
     pub const PIN: u8 = 14;
     pub const PAUSE: u8 = 15;
     pub const RESTORE: u8 = 16;
+    pub const RESTORE_EMPTIED: u8 = 17;
     pub const READ: u8 = 20;
     pub const BAR_READ: u8 = 21;
     pub const CONFIG_READ: u8 = 22;
@@ -100,8 +101,8 @@ fn generated(seed: u64, tame: bool) -> Vec<u8> {
 /// Whether there is a kind for the call, and the bytes that it hands over are few enough.
 fn is_recorded(op: &Op) -> bool {
     match op {
-        Op::Restore(state) => state.len() <= LONGEST,
-        Op::List { .. } | Op::Close(_) | Op::Peek { .. } => false,
+        Op::Restore(state) | Op::RestoreEmptied(state) => state.len() <= LONGEST,
+        Op::List { .. } | Op::RestoreList { .. } | Op::Close(_) | Op::Peek { .. } => false,
         _ => true,
     }
 }
@@ -214,6 +215,7 @@ impl Recorder {
             Op::Pin(node) => Call { kind: kind::PIN, first: u64::from(*node), ..plain },
             Op::Pause(paused) => Call { kind: kind::PAUSE, first: u64::from(*paused), ..plain },
             Op::Restore(state) => Call { kind: kind::RESTORE, bytes: state, ..plain },
+            Op::RestoreEmptied(state) => Call { kind: kind::RESTORE_EMPTIED, bytes: state, ..plain },
             Op::Read { offset, .. } => Call { kind: if by_bar { kind::BAR_READ } else { kind::READ }, first: *offset, room, ..plain },
             Op::ConfigRead(register) => Call { kind: kind::CONFIG_READ, first: *register, ..plain },
             Op::Save => Call { kind: kind::SAVE, room, ..plain },
@@ -329,13 +331,14 @@ fn fill(memory: &mut [u8], seed: u64) {
 #[cfg(test)]
 mod tests {
     use super::*;
+    use crate::side::number;
     use std::collections::BTreeSet;
 
-    /// The numbers that recorded restores returned.
-    fn numbers(mut data: &[u8]) -> BTreeSet<u8> {
+    /// The numbers that recorded calls of a kind returned.
+    fn numbers(mut data: &[u8], wanted: u8) -> BTreeSet<u8> {
         let mut numbers = BTreeSet::new();
         while let Some(kind) = data.first() {
-            if kind & !AMENDED == kind::RESTORE {
+            if kind & !AMENDED == wanted {
                 numbers.insert(data[23]);
             }
             data = &data[35 + layout::get::<2>(data, 1) as usize..];
@@ -346,7 +349,9 @@ mod tests {
     #[test]
     fn restores_are_accepted_and_refused_with_every_number() {
         let data = record("").expect("an empty trace is one");
-        assert_eq!(numbers(&data), (0..=9).collect());
+        let shared: BTreeSet<u8> = (0..=9).collect();
+        assert_eq!(numbers(&data, kind::RESTORE_EMPTIED), shared);
+        assert_eq!(numbers(&data, kind::RESTORE), &shared | &BTreeSet::from([number::CROWDED as u8]));
     }
 
     /// How many calls the unchanged Rust answered, and how many the amended oracle.

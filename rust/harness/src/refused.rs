@@ -1,7 +1,8 @@
-//! States that restore refuses, made of one that a device saved: each number of document 01, some by several of its conditions.
+//! States that restore refuses, made of one that a device saved: each number of document 01, some by several of its conditions, and request T-09's. The separate call
+//! gets the same states: it takes those with a crowded list, and refuses the others with the same number.
 use crate::ops::Op;
-use crate::side::Direction;
-use crate::state::State;
+use crate::side::{Direction, number};
+use crate::state::{SPACING, State, Stream};
 
 /// Where a stream's control byte stands in the registers, and its format word from there.
 const CONTROL: [usize; 2] = [0x80, 0xa0];
@@ -15,7 +16,7 @@ const REFUSED: u16 = 0x8011;
 const COUNT: usize = 710;
 
 /// The numbers, each with a damage of a sound state for which restore gives it.
-const DAMAGES: [(u32, fn(State) -> Vec<u8>); 16] = [
+const DAMAGES: [(u32, fn(State) -> Vec<u8>); 18] = [
     (2, |state| cut(&state, 1)),
     (2, |state| cut(&state, 300)),
     (3, |state| State { mark: *b"HDA2", ..state }.bytes()),
@@ -32,6 +33,9 @@ const DAMAGES: [(u32, fn(State) -> Vec<u8>); 16] = [
     (9, |state| State { remainder: 1_000_000_000, ..state }.bytes()),
     (9, |state| State { responses: 256, ..state }.bytes()),
     (9, |state| [state.bytes(), vec![0]].concat()),
+    // Neighbours 5 and 3 apart; and the last, with the offset, one above submitted.
+    (number::CROWDED, |state| crowded(state, Direction::Capture, |stream| stream.pending[1] += 1)),
+    (number::CROWDED, |state| crowded(state, Direction::Playback, |stream| stream.offset += 1)),
 ];
 /// One for each damage, then one for each stream's opening.
 pub const TURNS: usize = DAMAGES.len() + Direction::BOTH.len();
@@ -40,9 +44,13 @@ pub const TURNS: usize = DAMAGES.len() + Direction::BOTH.len();
 pub fn scene(turn: usize, saved: &[u8]) -> Vec<Op> {
     let state = sound(State::parse(saved).expect("a device saves a state"));
     match DAMAGES.get(turn % TURNS) {
-        Some((_, damage)) => vec![Op::Restore(damage(state))],
+        Some((_, damage)) => by_both_calls(damage(state)),
         None => refused_opening(state, Direction::BOTH[turn % TURNS - DAMAGES.len()]),
     }
+}
+
+fn by_both_calls(state: Vec<u8>) -> Vec<Op> {
+    vec![Op::Restore(state.clone()), Op::RestoreEmptied(state)]
 }
 
 /// The state with accepted formats: a guest may have stored others, which would be refused first.
@@ -63,7 +71,7 @@ fn refused_opening(mut state: State, direction: Direction) -> Vec<Op> {
     }
     state.registers[CONTROL[direction.index()]] |= RUN;
     let switch = |fails| Op::Fail { direction, fails };
-    vec![switch(true), Op::Restore(state.bytes()), switch(false)]
+    [vec![switch(true)], by_both_calls(state.bytes()), vec![switch(false)]].concat()
 }
 
 fn cut(state: &State, count: usize) -> Vec<u8> {
@@ -107,21 +115,62 @@ fn with_time(mut state: State, time: u64) -> Vec<u8> {
     state.bytes()
 }
 
+/// The state with a list of three positions in both streams, one of which is then crowded.
+fn crowded(mut state: State, direction: Direction, crowd: fn(&mut Stream)) -> Vec<u8> {
+    for stream in &mut state.streams {
+        stream.fill(3, SPACING);
+    }
+    crowd(&mut state.streams[direction.index()]);
+    state.bytes()
+}
+
 #[cfg(test)]
 mod tests {
     use super::*;
-    use crate::device::Reference;
+    use crate::device::{Amended, Reference};
     use crate::ops::execute;
-    use crate::side::{Side, number};
+    use crate::side::Side;
+
+    /// The numbers that a turn's restores give on a new device, which a refused one leaves as it was.
+    fn restores<S: Side>(turn: usize) -> Vec<u32> {
+        let mut device = S::new(true, 4096);
+        let saved = device.save().1;
+        let mut numbers = Vec::new();
+        for op in scene(turn, &saved) {
+            let number = execute(&mut device, &op).number;
+            if !matches!(op, Op::Fail { .. }) {
+                assert_eq!(device.save().1 == saved, number != number::DONE, "turn {turn}");
+                numbers.push(number);
+            }
+        }
+        numbers
+    }
 
     #[test]
-    fn the_unchanged_rust_refuses_each_with_its_number() {
+    fn each_is_refused_with_its_number_and_the_separate_call_takes_crowded_lists_alone() {
         for turn in 0..TURNS {
-            let mut device = Reference::new(true, 4096);
-            let saved = device.save().1;
-            let answers = scene(turn, &saved).iter().map(|op| execute(&mut device, op).number).max();
             let expected = DAMAGES.get(turn).map_or(number::HOST_CLOSED, |(number, _)| *number);
-            assert_eq!((answers, device.save().1), (Some(expected), saved), "turn {turn}");
+            if expected == number::CROWDED {
+                assert_eq!(restores::<Amended>(turn), [number::CROWDED, number::DONE], "turn {turn}");
+            } else {
+                assert_eq!([restores::<Reference>(turn), restores::<Amended>(turn)], [[expected; 2]; 2], "turn {turn}");
+            }
+        }
+    }
+
+    #[test]
+    fn the_separate_call_keeps_the_list_that_is_not_crowded() {
+        for (turn, _) in DAMAGES.iter().enumerate().filter(|(_, (number, _))| *number == number::CROWDED) {
+            let mut device = Amended::new(true, 4096);
+            let saved = device.save().1;
+            let scene = scene(turn, &saved);
+            let Some(Op::RestoreEmptied(handed)) = scene.last() else { panic!("turn {turn} has no separate call") };
+            let mut expected = State::parse(handed).unwrap();
+            for stream in expected.streams.iter_mut().filter(|stream| stream.is_crowded()) {
+                stream.pending.clear();
+            }
+            device.restore_emptied(handed);
+            assert_eq!(State::parse(&device.save().1), Some(expected), "turn {turn}");
         }
     }
 }

@@ -61,6 +61,7 @@ fn simpler(op: &Op) -> Vec<Op> {
         Op::Read { offset, length } => lengths(*length).map(|length| Op::Read { offset: *offset, length }).collect(),
         Op::Feed(frames) => lengths(frames.len()).map(|length| Op::Feed(frames[..length].to_vec())).collect(),
         Op::Restore(state) => lengths(state.len()).map(|length| Op::Restore(state[..length].to_vec())).collect(),
+        Op::RestoreEmptied(state) => lengths(state.len()).map(|length| Op::RestoreEmptied(state[..length].to_vec())).collect(),
         Op::Write { offset, data } => {
             lengths(data.len()).map(|length| Op::Write { offset: *offset, data: data[..length].to_vec() }).collect()
         }

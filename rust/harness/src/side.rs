@@ -2,7 +2,7 @@
 //!
 //! Nothing here knows how a side is made. The Rust devices are two sides (device.rs), the port's C functions a third (ported.rs).
 use crate::differences::Differences;
-use crate::state::{self, Fields};
+use crate::state::{self, Fields, Stream};
 
 /// A stream's direction. Its number is the stream's index in registers, saved states and host end.
 #[derive(Clone, Copy, Debug, PartialEq, Eq)]
@@ -23,12 +23,14 @@ impl Direction {
     }
 }
 
-/// The numbers that document 01's calls return and that Rust and port share.
+/// The numbers that calls return and that Rust and port share.
 pub mod number {
     pub const DONE: u32 = 0;
     pub const HOST_CLOSED: u32 = 1;
     pub const ODD_FRAMES: u32 = 11;
     pub const LATENCY: u32 = 12;
+    /// Restore's alone, by request T-09; the unchanged Rust never gives it.
+    pub const CROWDED: u32 = 20;
 }
 
 /// One MSI message.
@@ -86,7 +88,7 @@ impl View {
     }
 }
 
-/// A device with host end and guest memory. Every call of document 01, and below them what only the harness needs.
+/// A device with host end and guest memory. Every call of document 01 and of landed requests, and below them what only the harness needs.
 pub trait Side {
     const NAME: &'static str;
 
@@ -111,9 +113,13 @@ pub trait Side {
     fn set_downstream(&mut self, bytes: u32) -> u32;
     fn save(&mut self) -> (u32, Vec<u8>);
     fn restore(&mut self, state: &[u8]) -> u32;
+    /// Request T-09's call: as restore, but crowded lists are emptied. The unchanged Rust has none, and its side restores: the same wherever no list is crowded.
+    fn restore_emptied(&mut self, state: &[u8]) -> u32;
 
     /// Closes the host stream and keeps RUN, which no call does: only so can `advance` be refused.
     fn close(&mut self, direction: Direction);
+    /// Gives a stream the counts and the list of another, which no call does and one who lends the bytes may: restore takes no crowded list.
+    fn set_list(&mut self, direction: Direction, stream: &Stream);
     fn memory(&self) -> &[u8];
     fn memory_mut(&mut self) -> &mut [u8];
     /// The level now, and the messages since the last time this was asked.

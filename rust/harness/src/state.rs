@@ -29,6 +29,8 @@ pub struct Stream {
     pub pending: Vec<u64>,
 }
 
+/// Bytes that neighbours of a list are apart at least, else it is crowded.
+pub const SPACING: u64 = 4;
 /// Where the registers start in a saved state.
 pub const REGISTERS: usize = 4 + 1 + 1 + 256;
 /// Where the streams start in a saved state.
@@ -75,6 +77,27 @@ impl State {
 }
 
 impl Stream {
+    /// Gives the stream a list of `count` positions `spacing` apart, of which the last is as far below submitted as the descriptor's offset asks.
+    pub fn fill(&mut self, count: u64, spacing: u64) {
+        let offset = u64::from(self.offset);
+        self.submitted = self.submitted.max(spacing * count + offset);
+        self.consumed = self.submitted - offset - spacing * count;
+        self.pending = (1..=count).map(|place| self.consumed + spacing * place).collect();
+    }
+
+    /// Whether restore refuses the list with 20: request T-09's sentence, in sums that do not wrap. The positions need not rise.
+    pub fn is_crowded(&self) -> bool {
+        let near = |pair: &[u64]| u128::from(pair[0]) + u128::from(SPACING) > u128::from(pair[1]);
+        let above = |last: &u64| u128::from(*last) + u128::from(self.offset) > u128::from(self.submitted);
+        self.pending.windows(2).any(near) || self.pending.last().is_some_and(above)
+    }
+
+    /// Whether the positions rise from consumed to submitted, without which restore gives 7.
+    pub fn rises(&self) -> bool {
+        let from = std::iter::once(&self.consumed).chain(&self.pending);
+        from.zip(&self.pending).all(|(one, next)| one < next && *next <= self.submitted)
+    }
+
     fn parse(reader: &mut Reader) -> Option<Self> {
         let mut stream = Self {
             descriptor: u16::from_le_bytes(reader.take()?),
@@ -195,5 +218,20 @@ mod tests {
         assert_eq!(State::parse(&state.bytes()).as_ref(), Some(&state));
         assert_eq!(progress(&state.bytes())[1], Progress { submitted: 9, pending: 2, ..Progress::default() });
         assert_eq!(State::parse(&state.bytes()[1..]), None);
+    }
+
+    #[test]
+    fn a_list_is_crowded_by_its_neighbours_or_by_the_offset_behind_its_last() {
+        let mut stream = Stream { offset: 5, ..Stream::default() };
+        stream.fill(3, SPACING);
+        assert_eq!((stream.submitted, stream.consumed, stream.pending.as_slice()), (17, 0, [4, 8, 12].as_slice()));
+        assert!(stream.rises() && !stream.is_crowded());
+        assert!(Stream { pending: vec![4, 9, 12], ..stream.clone() }.is_crowded());
+        assert!(Stream { offset: 6, ..stream.clone() }.is_crowded());
+        assert!(!Stream { offset: u32::MAX, pending: Vec::new(), ..stream.clone() }.is_crowded());
+        assert!(!Stream { pending: vec![4, 4], ..stream.clone() }.rises());
+        assert!(!Stream { pending: vec![18], ..stream }.rises());
+        let last = Stream { offset: 1, submitted: u64::MAX, pending: vec![u64::MAX], ..Stream::default() };
+        assert!(last.rises() && last.is_crowded(), "the sum passes 64 bits");
     }
 }

@@ -156,6 +156,18 @@ unsafe extern "C" {
         state: *const u8,
         state_length: usize,
     ) -> u64;
+    pub fn hda_restore_emptied(
+        device: *mut u8,
+        device_length: usize,
+        host: *mut u8,
+        host_length: usize,
+        lists: *mut u8,
+        lists_length: usize,
+        queues: *const u8,
+        queues_length: usize,
+        state: *const u8,
+        state_length: usize,
+    ) -> u64;
     pub fn hda_feed(
         host: *mut u8,
         host_length: usize,

@@ -249,6 +249,24 @@ pub fn restore(device: &mut [u8], host: &mut [u8], lists: &mut [u8], queues: &[u
     })
 }
 
+/// The same for a state with crowded lists, which are emptied: completions that the guest waits for are lost.
+pub fn restore_emptied(device: &mut [u8], host: &mut [u8], lists: &mut [u8], queues: &[u8], state: &[u8]) -> Reply {
+    Reply(unsafe {
+        c::hda_restore_emptied(
+            device.as_mut_ptr(),
+            device.len(),
+            host.as_mut_ptr(),
+            host.len(),
+            lists.as_mut_ptr(),
+            lists.len(),
+            queues.as_ptr(),
+            queues.len(),
+            state.as_ptr(),
+            state.len(),
+        )
+    })
+}
+
 /// Frames for capture; the reply's value says how many were taken.
 pub fn feed(host: &mut [u8], queues: &mut [u8], frames: &[u8]) -> Reply {
     Reply(unsafe { c::hda_feed(host.as_mut_ptr(), host.len(), queues.as_mut_ptr(), queues.len(), frames.as_ptr(), frames.len()) })

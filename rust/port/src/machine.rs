@@ -121,6 +121,13 @@ impl Machine {
         self.answer(reply)
     }
 
+    /// As [`Machine::restore`], but a state whose lists are crowded is taken, with those lists emptied. Their completions are lost: the guest gets no interrupt for them.
+    pub fn restore_emptied(&mut self, state: &[u8]) -> Answer {
+        let Bytes { device, host, lists, queues } = &mut self.bytes;
+        let reply = calls::restore_emptied(device, host, &mut **lists, &**queues, state);
+        self.answer(reply)
+    }
+
     /// Frames for capture; the answer's value says how many were taken.
     pub fn feed(&mut self, frames: &[u8]) -> Answer {
         let reply = calls::feed(&mut self.bytes.host, &mut *self.bytes.queues, frames);

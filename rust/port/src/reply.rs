@@ -1,7 +1,7 @@
 //! What a call returns.
 use crate::layout::{DEVICE, device, get};
 
-/// Document 01's numbers. 2 to 8 are of restore alone.
+/// Document 01's numbers, and those of landed requests. 2 to 8 and 20 are of restore alone.
 pub mod number {
     pub const DONE: u8 = 0;
     /// An opening was refused in `advance` or restore.
@@ -30,6 +30,8 @@ pub mod number {
     pub const WAV: u8 = 13;
     /// Too little space for the result.
     pub const SHORT_SPACE: u8 = 14;
+    /// A crowded list: neighbours fewer than 4 bytes apart, or the last with the stream's descriptor offset above what was submitted.
+    pub const CROWDED: u8 = 20;
 }
 
 /// The number that a C function returned. Bits 31..10 are always 0.

@@ -21,19 +21,19 @@ returns : tie.Need-returns
 unfolding stepAt
 returns c =
     read _ _ (c .before .before .before .before .before .run .ensures) (c .before .before .before .enum-told .given .1)
-    (step-refused _ _ _ _ (c .before .before .load-stream .ensures) (c .before .stream-number .ensures) (c .if1 .taken))
+    (step-refused _ _ _ _ _ (c .before .before .load-stream .ensures) (c .before .stream-number .ensures) (c .if1 .taken))
 
-add-t12 : tie.Need-add-t12
-add-t12 c =
+add-t13 : tie.Need-add-t13
+add-t13 c =
     let run = c .before .before .before .before .before .before .before in
     let there = run-value _ _ _ _ (run .run .ensures) _ (c .before .before .before .before .before .enum-told .given .1) in
-    omega (arith, stream-fits _ _ _ _ (sym (c .before .before .before .stream-number .ensures) ∙ c .before .before .if1 .left) (omega (arith, there .0, there .2)))
+    omega (arith, stream-fits _ _ _ _ _ (sym (c .before .before .before .stream-number .ensures) ∙ c .before .before .if1 .left) (omega (arith, there .0, there .2)))
 
 returns-2 : tie.Need-returns-2
 unfolding stepAt
 returns-2 c =
     read _ _ (c .before .before .before .before .before .before .before .run .ensures) (c .before .before .before .before .before .enum-told .given .1)
-    (step-passed _ _ _ _ (c .before .before .before .before .load-stream .ensures) (c .before .before .before .stream-number .ensures) (c .before .before .if1 .left))
+    (step-passed _ _ _ _ _ (c .before .before .before .before .load-stream .ensures) (c .before .before .before .stream-number .ensures) (c .before .before .if1 .left))
 
 returns-3 : tie.Need-returns-3
 unfolding stepAt
@@ -44,4 +44,4 @@ step-at-spec =
     tie.close
     (tie.spec
     (λ c κs. search needs) (λ c. search needs) load-stream-requires stream-number-requires returns (λ c. search needs) (λ c. search needs)
-    add-t12 (λ c. search needs) returns-2 returns-3)
+    add-t13 (λ c. search needs) returns-2 returns-3)

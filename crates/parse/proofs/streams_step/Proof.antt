@@ -11,11 +11,11 @@ use Rattle.parse.proofs.streams_step.Statement.{statement}
 use Rattle.parse.proofs.streams_step.Tie as tie
 
 abbrev Inv-loop : tie.InvT-loop
-Inv-loop state count at₀ index₀ at index =
-    (680 ≤ at) × (n : ℕ) × (index + n ≡ count) × (eachOf goesOn (stepAt state) n index (stepOut 0 at) ≡ eachOf goesOn (stepAt state) count 0 (stepOut 0 680))
+Inv-loop strict state count at₀ index₀ at index =
+    (680 ≤ at) × (n : ℕ) × (index + n ≡ count) × (eachOf goesOn (stepAt strict state) n index (stepOut 0 at) ≡ eachOf goesOn (stepAt strict state) count 0 (stepOut 0 680))
 
 abbrev μ-loop : tie.MeasureT-loop
-μ-loop state count at₀ index₀ at index = count - index
+μ-loop strict state count at₀ index₀ at index = count - index
 
 loop-holds : tie.Need-loop-holds Inv-loop μ-loop
 loop-holds c = (omega arith, streams, refl, refl)
@@ -27,14 +27,14 @@ returns : tie.Need-returns Inv-loop μ-loop
 unfolding streamsStep
 returns c =
     let l = c .before .before .before .before .loop in
-    sym (loop-stop _ streams (l .index) (l .inv .1) (l .at) _ (l .inv .2) (omega arith) (c .before .before .step-at .ensures) (c .if1 .taken)) ∙ l .inv .3
+    sym (loop-stop _ _ streams (l .index) (l .inv .1) (l .at) _ (l .inv .2) (omega arith) (c .before .before .step-at .ensures) (c .if1 .taken)) ∙ l .inv .3
 
 loop-again : tie.Need-loop-again Inv-loop μ-loop
 loop-again c =
     let l = c .before .before .before .before .loop in
     let p = c .before .before in
-    let k = loop-step _ streams (l .index) (l .inv .1) (l .at) _ (l .inv .2) (omega arith) (p .step-at .ensures) (c .if1 .left) in
-    let later = loop-later _ streams (l .index) (l .inv .1) (l .at) _ (l .inv .2) (omega arith) (p .step-at .ensures) (c .if1 .left) in
+    let k = loop-step _ _ streams (l .index) (l .inv .1) (l .at) _ (l .inv .2) (omega arith) (p .step-at .ensures) (c .if1 .left) in
+    let later = loop-later _ _ streams (l .index) (l .inv .1) (l .at) _ (l .inv .2) (omega arith) (p .step-at .ensures) (c .if1 .left) in
     (omega (arith, later), k .0, k .1, sym (k .2) ∙ l .inv .3)
 
 returns-2 : tie.Need-returns-2 Inv-loop μ-loop

@@ -11,7 +11,7 @@ returns : tie.Need-returns
 returns c =
     let check = c .before .before in
     let a = check .before .before .before .before .before .args in
-    checked (a .state .now) (a .hda) (a .host) (a .lists .now) (length (a .queues .now)) (check .check .ensures) (c .before .if1 .taken) (c .answer .ensures)
+    checked (a .strict) (a .state .now) (a .hda) (a .host) (a .lists .now) (length (a .queues .now)) (check .check .ensures) (c .before .if1 .taken) (c .answer .ensures)
 
 restore-step-requires : tie.Need-restore-step-requires
 restore-step-requires c κs =
@@ -26,7 +26,7 @@ returns-2 c =
     let check = one .before in
     let a = check .before .before .before .before .before .args in
     step .restore-step .ensures
-    ∙ passes (a .state .now) (a .hda) (a .host) (a .lists .now) (length (a .queues .now)) (check .check .ensures) (one .if1 .left)
+    ∙ passes (a .strict) (a .state .now) (a .hda) (a .host) (a .lists .now) (length (a .queues .now)) (check .check .ensures) (one .if1 .left)
 
 pub restore-spec : {M : Type 1} → statement M
 restore-spec =

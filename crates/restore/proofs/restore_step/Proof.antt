@@ -10,23 +10,23 @@ returns : tie.Need-returns
 returns c =
     let number = c .before .before in
     let a = number .before .before .before .before .before .args in
-    refused (a .state .now) (a .hda) (a .host) (a .lists .now)
-    (state-number (a .state .now) (a .hda) (a .host) (number .state-number .result) (number .state-number .ensures) (c .before .if1 .taken))
+    refused (a .strict) (a .state .now) (a .hda) (a .host) (a .lists .now)
+    (state-number (a .strict) (a .state .now) (a .hda) (a .host) (number .state-number .result) (number .state-number .ensures) (c .before .if1 .taken))
     (c .before .if1 .taken) (c .answer .ensures)
 
 opening-number-requires : tie.Need-opening-number-requires
 opening-number-requires c κs =
     let number = c .before in
     let a = number .before .before .before .before .before .args in
-    taken-long (a .state .now) (a .hda .microphone) (a .hda .config) (sym (number .state-number .ensures) ∙ c .if1 .left)
+    taken-long (a .strict) (a .state .now) (a .hda .microphone) (a .hda .config) (sym (number .state-number .ensures) ∙ c .if1 .left)
 
 returns-2 : tie.Need-returns-2
 returns-2 c =
     let opening = c .before .before in
     let number = opening .before .before in
     let a = number .before .before .before .before .before .args in
-    refused (a .state .now) (a .hda) (a .host) (a .lists .now)
-    (opening-number (a .state .now) (a .hda) (a .host) (number .state-number .result) (number .state-number .ensures) (opening .before .if1 .left)
+    refused (a .strict) (a .state .now) (a .hda) (a .host) (a .lists .now)
+    (opening-number (a .strict) (a .state .now) (a .hda) (a .host) (number .state-number .result) (number .state-number .ensures) (opening .before .if1 .left)
     (opening .opening-number .ensures))
     (c .before .if2 .taken) (c .answer2 .ensures)
 
@@ -36,21 +36,21 @@ restore-lists-requires c κs =
     let number = one .before in
     let start = number .before .before .before .before .before in
     let a = start .args in
-    (taken-fits (a .state .now) (a .hda .microphone) (a .hda .config) (sym (number .state-number .ensures) ∙ one .if1 .left), start .pre)
+    (taken-fits (a .strict) (a .state .now) (a .hda .microphone) (a .hda .config) (sym (number .state-number .ensures) ∙ one .if1 .left), start .pre)
 
 restored-device-requires : tie.Need-restored-device-requires
 restored-device-requires c κs =
     let one = c .before .before .before .before .before .before in
     let number = one .before in
     let a = number .before .before .before .before .before .args in
-    taken-fits (a .state .now) (a .hda .microphone) (a .hda .config) (sym (number .state-number .ensures) ∙ one .if1 .left)
+    taken-fits (a .strict) (a .state .now) (a .hda .microphone) (a .hda .config) (sym (number .state-number .ensures) ∙ one .if1 .left)
 
 restored-host-requires : tie.Need-restored-host-requires
 restored-host-requires c κs =
     let one = c .before .before .before .before .before .before .before in
     let number = one .before in
     let a = number .before .before .before .before .before .args in
-    taken-long (a .state .now) (a .hda .microphone) (a .hda .config) (sym (number .state-number .ensures) ∙ one .if1 .left)
+    taken-long (a .strict) (a .state .now) (a .hda .microphone) (a .hda .config) (sym (number .state-number .ensures) ∙ one .if1 .left)
 
 returns-3 : tie.Need-returns-3
 returns-3 c =
@@ -61,8 +61,8 @@ returns-3 c =
     let opening = two .before in
     let number = opening .before .before in
     let a = number .before .before .before .before .before .args in
-    taken (a .state .now) (a .hda) (a .host) (a .lists .now)
-    (opening-number (a .state .now) (a .hda) (a .host) (number .state-number .result) (number .state-number .ensures) (opening .before .if1 .left)
+    taken (a .strict) (a .state .now) (a .hda) (a .host) (a .lists .now)
+    (opening-number (a .strict) (a .state .now) (a .hda) (a .host) (number .state-number .result) (number .state-number .ensures) (opening .before .if1 .left)
     (opening .opening-number .ensures))
     (two .if2 .left) (c .finish .ensures) (device .restored-device .ensures) (host .restored-host .ensures) (lists .restore-lists .ensures)
 

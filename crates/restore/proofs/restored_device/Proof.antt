@@ -18,8 +18,8 @@ load-block-requires-2 c κs = let start = c .before .before .before .before .bef
 load-link-requires : tie.Need-load-link-requires
 load-link-requires c κs = let start = c .before .before .before .before .before .before .before .before in fits-long (start .args .state .now) (start .pre)
 
-shared-slice-read-t14 : tie.Need-shared-slice-read-t14
-shared-slice-read-t14 c = let start = c .before .before .before .before .before .before .before .before .before .before .before in omega (arith, fits-long (start .args .state .now) (start .pre))
+shared-slice-read-t15 : tie.Need-shared-slice-read-t15
+shared-slice-read-t15 c = let start = c .before .before .before .before .before .before .before .before .before .before .before in omega (arith, fits-long (start .args .state .now) (start .pre))
 
 returns : tie.Need-returns
 returns c =
@@ -32,7 +32,7 @@ returns c =
     let later = block .before in
     let clock = later .before in
     let a = clock .before .before .args in
-    device-made (a .state .now) (a .hda) (clock .load-clock .ensures) (later .later .ensures) (shown .shown .ensures) (block .load-block .ensures)
+    device-made (a .strict) (a .state .now) (a .hda) (clock .load-clock .ensures) (later .later .ensures) (shown .shown .ensures) (block .load-block .ensures)
     (stored .put32-in .ensures) (config .load-block2 .ensures) (link .load-link .ensures) (streams .restored-streams .ensures)
 
 pub restored-device-spec : {M : Type 1} → statement M
@@ -46,5 +46,5 @@ restored-device-spec =
     load-block-requires-2
     load-link-requires
     (λ c κs. search needs)
-    shared-slice-read-t14
+    shared-slice-read-t15
     returns)

@@ -10,6 +10,7 @@ mod streams;
 use crate::ops::Op;
 use crate::random::Random;
 use crate::side::{Answer, Direction};
+use crate::state::{State, Stream};
 use std::collections::VecDeque;
 use streams::StreamPicture;
 
@@ -73,6 +74,7 @@ enum Scene {
     Synchronize,
     Save,
     Restore,
+    Crowded,
     FullList,
     Look,
     Garbage,
@@ -80,7 +82,7 @@ enum Scene {
 }
 
 /// How often each scene is taken.
-const SCENES: [(u64, Scene); 28] = [
+const SCENES: [(u64, Scene); 29] = [
     (2, Scene::Boot),
     (4, Scene::Rings),
     (2, Scene::Pointers),
@@ -105,6 +107,7 @@ const SCENES: [(u64, Scene); 28] = [
     (1, Scene::Synchronize),
     (3, Scene::Save),
     (4, Scene::Restore),
+    (4, Scene::Crowded),
     (1, Scene::FullList),
     (4, Scene::Look),
     (6, Scene::Garbage),
@@ -141,7 +144,7 @@ impl Generator {
 
     /// Tells what the device answered to the last call.
     pub fn observe(&mut self, op: &Op, answer: &Answer) {
-        if *op != Op::Save {
+        if *op != Op::Save || !self.keeps(&answer.bytes) {
             return;
         }
         if self.saved.len() == KEPT_STATES {
@@ -152,6 +155,11 @@ impl Generator {
         if std::mem::take(&mut self.restores_next) {
             self.restore_changed(&answer.bytes);
         }
+    }
+
+    /// Whether a saved state is kept. One with a crowded list, which the device was handed, would make the unchanged Rust leave when it is restored.
+    fn keeps(&self, saved: &[u8]) -> bool {
+        self.asks_more || !State::parse(saved).is_some_and(|state| state.streams.iter().any(Stream::is_crowded))
     }
 
     /// Calls of a device that nobody drives.
@@ -214,6 +222,7 @@ impl Generator {
             Scene::Synchronize => self.synchronize(),
             Scene::Save => self.save_and_restore(),
             Scene::Restore => self.restore_kept(),
+            Scene::Crowded => self.restore_crowded(),
             Scene::FullList => self.full_list(),
             Scene::Look => self.look(),
             Scene::Garbage => self.garbage(),

@@ -2,7 +2,7 @@
 use super::{ADDRESS_REGISTERS, Generator, REFUSED_FORMATS};
 use crate::ops::Op;
 use crate::side::Direction;
-use crate::state::{BOUNDARIES, REGISTERS, State};
+use crate::state::{BOUNDARIES, REGISTERS, SPACING, State, Stream};
 
 /// Completions that may be pending at once.
 const LIST_LIMIT: u64 = 4352;
@@ -18,15 +18,72 @@ impl Generator {
 
     /// A kept state, as it was or changed.
     pub(super) fn restore_kept(&mut self) {
-        let Some(place) = self.saved.len().checked_sub(1) else {
+        let Some(bytes) = self.kept() else {
             return self.plan(Op::Save);
         };
-        let place = self.random.between(0, place as u64) as usize;
-        let bytes = self.saved[place].clone();
         if self.random.percent(30) {
-            self.plan(Op::Restore(bytes));
+            self.restore(bytes);
         } else {
             self.restore_changed(&bytes);
+        }
+    }
+
+    fn kept(&mut self) -> Option<Vec<u8>> {
+        let last = self.saved.len().checked_sub(1)?;
+        Some(self.saved[self.random.between(0, last as u64) as usize].clone())
+    }
+
+    /// One of the calls that restore. Where no list is crowded both are the unchanged Rust's restore.
+    fn restore(&mut self, bytes: Vec<u8>) {
+        let emptied = self.random.percent(25);
+        self.plan(if emptied { Op::RestoreEmptied(bytes) } else { Op::Restore(bytes) });
+    }
+
+    /// A kept state with lists that are crowded, or only just not, and at times damaged too; by one call or by both.
+    pub(super) fn restore_crowded(&mut self) {
+        if !self.asks_more {
+            return;
+        }
+        let Some(mut state) = self.kept().and_then(|bytes| State::parse(&bytes)) else {
+            return self.plan(Op::Save);
+        };
+        for index in self.random.pick(&[&[0][..], &[1], &[0, 1]]) {
+            self.crowd(&mut state.streams[*index]);
+        }
+        if self.random.percent(30) {
+            self.damage(&mut state);
+        }
+        let bytes = state.bytes();
+        let (plain, separate) = (Op::Restore(bytes.clone()), Op::RestoreEmptied(bytes));
+        match self.random.below(4) {
+            0 => self.plan(plain),
+            1 => self.plan(separate),
+            2 => self.planned.extend([plain, separate]),
+            _ => self.planned.extend([separate, plain]),
+        }
+        self.go_on();
+    }
+
+    /// A list at the edge of what restore takes: two neighbours from 1 to 4 apart, or the last, with the offset, from just below submitted to above it. The first may
+    /// stand anywhere behind consumed, and an empty list is never crowded, whatever the offset.
+    fn crowd(&mut self, stream: &mut Stream) {
+        let (count, spacing) = (self.random.between(1, 6), self.random.between(SPACING, 9));
+        stream.offset = self.random.pick(&[stream.offset, 0, 0, 1, 4, 60]);
+        if !self.tame && self.random.percent(30) {
+            stream.submitted = u64::MAX - self.random.below(3);
+        }
+        stream.fill(count, spacing);
+        stream.consumed += self.random.below(spacing);
+        match self.random.below(8) {
+            0..=3 => {
+                let (place, gap) = (self.random.between(1, count) as usize, self.random.between(1, SPACING));
+                stream.pending[place..].iter_mut().for_each(|position| *position -= spacing - gap);
+            }
+            4..=6 => stream.offset = stream.offset.saturating_add_signed(self.random.pick(&[-1, 0, 1, 1, 7, i32::MAX])),
+            _ => {
+                stream.pending.clear();
+                stream.offset = self.random.pick(&[1, 4, 60, u32::MAX]);
+            }
         }
     }
 
@@ -35,11 +92,19 @@ impl Generator {
         for _ in 0..self.random.between(1, 3) {
             if self.random.percent(70) { self.change(&mut state) } else { self.damage(&mut state) }
         }
+        if !self.asks_more {
+            state.streams.iter_mut().for_each(thin);
+        }
         let mut bytes = state.bytes();
         if self.random.percent(12) {
             self.damage_bytes(&mut bytes);
         }
-        self.plan(Op::Restore(bytes));
+        self.restore(bytes);
+        self.go_on();
+    }
+
+    /// What a restored device is put through.
+    fn go_on(&mut self) {
         // Time first: any write would already act on restored reset bits.
         if self.random.percent(60) {
             self.time();
@@ -58,13 +123,18 @@ impl Generator {
         }
     }
 
-    /// Playback with a list near its limit that does not retire, since that much latency is downstream.
+    /// Playback with a list near its limit. One that restore takes retires in the next turn, down to what latency can hold back. One that is handed to the
+    /// device, and is crowded, does not, since that much latency is downstream.
     pub(super) fn full_list(&mut self) {
-        let most = if self.tame { LIST_LIMIT } else { LIST_LIMIT + 1 };
-        let count = self.random.between(LIST_LIMIT - 3, most) as usize;
+        let (direction, count) = (Direction::Playback, self.random.between(LIST_LIMIT - 3, LIST_LIMIT) as usize);
         let downstream = self.random.pick(&[4356, 8192, 14_336]);
         self.plan(Op::Downstream(downstream));
-        self.plan(Op::List { direction: Direction::Playback, count });
+        if self.random.percent(25) {
+            let over = if self.tame { 0 } else { self.random.below(2) as usize };
+            self.plan(Op::RestoreList { direction, count: count + over });
+        } else {
+            self.plan(Op::List { direction, count });
+        }
         self.time();
         self.plan(Op::Downstream(0));
     }
@@ -138,16 +208,14 @@ impl Generator {
         self.change_counts(state, index);
     }
 
-    /// A list that restore accepts, unless it is longer than the limit.
+    /// A list that restore accepts, unless it is longer than the limit; in sequences that ask more it may be crowded.
     fn change_list(&mut self, state: &mut State, index: usize) {
         let over = if self.tame { LIST_LIMIT } else { LIST_LIMIT + self.random.pick(&[1, 2, 600]) };
         let count = self.random.weighted(&[(4, 1), (4, 3), (4, 40), (1, LIST_LIMIT - 1), (1, LIST_LIMIT), (1, over)]);
-        let spacing = self.random.between(1, 9);
+        let spacing = self.random.between(if self.asks_more { 1 } else { SPACING }, 9);
         let stream = &mut state.streams[index];
-        let length = count * spacing + self.random.below(20);
-        stream.submitted = stream.submitted.max(length);
-        stream.consumed = stream.submitted - length;
-        stream.pending = (1..=count).map(|place| stream.consumed + place * spacing).collect();
+        stream.fill(count, spacing);
+        stream.submitted = stream.submitted.saturating_add(self.random.below(20));
     }
 
     /// Any byte of configuration or registers; in tame sequences none that holds an address.
@@ -223,5 +291,75 @@ impl Generator {
                 }
             }
         }
+    }
+}
+
+/// Takes out of a list what makes it crowded. One that does not rise is refused before that is asked, and stays as it is.
+fn thin(stream: &mut Stream) {
+    if stream.rises() {
+        stream.pending.dedup_by(|next, one| *next - *one < SPACING);
+        stream.pending.retain(|position| stream.submitted - position >= u64::from(stream.offset));
+    }
+}
+
+#[cfg(test)]
+mod tests {
+    use super::*;
+    use crate::device::{Amended, Reference};
+    use crate::lockstep::{InStep, Lockstep};
+    use crate::side::Side;
+
+    /// The streams of all states that sequences restore, with the call's word.
+    fn restored(asks_more: bool) -> Vec<(&'static str, Stream)> {
+        let mut found = Vec::new();
+        for seed in 0..200 {
+            let mut generator = Generator::new(seed, true);
+            generator.asks_more = asks_more;
+            generator.saved.push(Reference::new(true, 4096).save().1);
+            for op in generator.take_ops(300) {
+                let (Op::Restore(state) | Op::RestoreEmptied(state)) = &op else { continue };
+                found.extend(State::parse(state).into_iter().flat_map(|state| state.streams).map(|stream| (op.kind(), stream)));
+            }
+        }
+        found
+    }
+
+    #[test]
+    fn lists_are_crowded_in_sequences_that_ask_more_and_never_in_others() {
+        let crowded =
+            |asks_more| restored(asks_more).into_iter().filter(|(_, stream)| stream.rises() && stream.is_crowded()).collect::<Vec<_>>();
+        assert!(crowded(false).is_empty());
+        let crowded = crowded(true);
+        for kind in ["restore", "restore-emptied"] {
+            assert!(crowded.iter().filter(|(word, _)| *word == kind).count() >= 50, "{kind}");
+        }
+    }
+
+    #[test]
+    fn the_unchanged_rust_judges_all_lists_of_sequences_that_do_not_ask_more() {
+        for seed in 0..200 {
+            let (mut generator, mut sides) = (Generator::new(seed, true), Lockstep::<Reference, Amended>::new());
+            generator.asks_more = false;
+            for _ in 0..300 {
+                let op = generator.next_op();
+                let Ok(answer) = sides.step(&op) else { break };
+                generator.observe(&op, &answer);
+            }
+            assert!(!sides.coverage().to_string().contains("restore-crowded"), "seed {seed}");
+        }
+    }
+
+    #[test]
+    fn every_edge_of_a_crowded_list_is_met() {
+        let streams: Vec<Stream> = restored(true).into_iter().map(|(_, stream)| stream).filter(Stream::rises).collect();
+        let nearest = |stream: &Stream| stream.pending.windows(2).map(|pair| pair[1] - pair[0]).min();
+        for gap in 1..=4 {
+            assert!(streams.iter().any(|stream| nearest(stream) == Some(gap)), "{gap} apart");
+        }
+        let above = |stream: &Stream| Some(i128::from(*stream.pending.last()?) + i128::from(stream.offset) - i128::from(stream.submitted));
+        for distance in -1..=1 {
+            assert!(streams.iter().any(|stream| nearest(stream) >= Some(4) && above(stream) == Some(distance)), "{distance} above");
+        }
+        assert!(streams.iter().any(|stream| stream.pending.is_empty() && u64::from(stream.offset) > stream.submitted));
     }
 }

@@ -1,5 +1,6 @@
 -- `change` is `changeOf`: each kind's own call. Assumes nothing.
 use mathlib.Core.Path.{_∙_}
+use mathlib.Core.Bool.{true, false}
 use borrow.Author.Tests.{ne-eqb}
 use Rattle.rehearse.specs.Calls.{changeOf}
 use Rattle.rehearse.proofs.Steps.{restored-beside}
@@ -30,6 +31,9 @@ pin-presence-changed-requires c κs = search needs
 
 restore-requires : tie.Need-restore-requires
 restore-requires c κs = search needs
+
+restore-requires-2 : tie.Need-restore-requires-2
+restore-requires-2 c κs = search needs
 
 same-length : tie.Need-same-length
 same-length c = search needs
@@ -147,13 +151,31 @@ returns-6 : tie.Need-returns-6
 unfolding changeOf
 returns-6 c =
     let a = c .before .before .before .before .before .before .before .before .before .before .before .before .before .before .before .before .before .before .args in
-    restored-beside (a .memory .now) (a .bytes .now) (a .device .now) (a .host .now) (a .lists .now) (a .queues .now) _ _ _ _ (c .before .before .before .before .before .before .restore .ensures) ∙ rw (c .before .before .before .before .before .before .before .before .before .before .before .match .keys6)
+    restored-beside (a .memory .now) true (a .bytes .now) (a .device .now) (a .host .now) (a .lists .now) (a .queues .now) _ _ _ _ (c .before .before .before .before .before .before .restore .ensures) ∙ rw (c .before .before .before .before .before .before .before .before .before .before .before .match .keys6)
+
+same-length-30 : tie.Need-same-length-30
+same-length-30 c = search needs
+
+same-length-31 : tie.Need-same-length-31
+same-length-31 c = search needs
+
+same-length-32 : tie.Need-same-length-32
+same-length-32 c = search needs
+
+same-length-33 : tie.Need-same-length-33
+same-length-33 c = search needs
 
 returns-7 : tie.Need-returns-7
 unfolding changeOf
 returns-7 c =
+    let a = c .before .before .before .before .before .before .before .before .before .before .before .before .before .before .before .before .before .before .args in
+    restored-beside (a .memory .now) false (a .bytes .now) (a .device .now) (a .host .now) (a .lists .now) (a .queues .now) _ _ _ _ (c .before .before .before .before .before .before .restore2 .ensures) ∙ rw (c .before .before .before .before .before .before .before .before .before .before .before .match .keys7)
+
+returns-8 : tie.Need-returns-8
+unfolding changeOf
+returns-8 c =
     let none = c .match .rest in
-    simp (ne-eqb _ _ (none .1), ne-eqb _ _ (none .0 .1), ne-eqb _ _ (none .0 .0 .1), ne-eqb _ _ (none .0 .0 .0 .1), ne-eqb _ _ (none .0 .0 .0 .0 .1), ne-eqb _ _ (none .0 .0 .0 .0 .0 .1))
+    simp (ne-eqb _ _ (none .1), ne-eqb _ _ (none .0 .1), ne-eqb _ _ (none .0 .0 .1), ne-eqb _ _ (none .0 .0 .0 .1), ne-eqb _ _ (none .0 .0 .0 .0 .1), ne-eqb _ _ (none .0 .0 .0 .0 .0 .1), ne-eqb _ _ (none .0 .0 .0 .0 .0 .0 .1))
 
 pub change-spec : {M : Type 1} → statement M
 change-spec =
@@ -167,6 +189,7 @@ change-spec =
     low-requires-2
     pin-presence-changed-requires
     restore-requires
+    restore-requires-2
     same-length
     same-length-2
     same-length-3
@@ -202,4 +225,9 @@ change-spec =
     same-length-28
     same-length-29
     returns-6
-    returns-7)
+    same-length-30
+    same-length-31
+    same-length-32
+    same-length-33
+    returns-7
+    returns-8)

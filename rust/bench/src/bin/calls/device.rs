@@ -161,6 +161,12 @@ impl Side for Rust {
     fn keep(&mut self) {
         self.kept = self.saved();
     }
+    fn kept(&mut self) -> &mut [u8] {
+        &mut self.kept
+    }
+    fn restore_emptied(&mut self) {
+        self.restore();
+    }
     fn restore(&mut self) {
         let device: &mut dyn Snapshot = black_box(&mut self.device);
         device.restore_state(&self.kept).unwrap();

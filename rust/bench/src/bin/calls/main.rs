@@ -5,7 +5,9 @@ mod sides;
 mod unchanged;
 
 use bench::{by_turns, clock, cpu_time};
-use operations::{Command, ConfigRead, ConfigWrite, Frames, Idle, Operation, Period, Pieces, Rate, Read, Restore, Save, Tick, Write};
+use operations::{
+    Command, ConfigRead, ConfigWrite, Frames, Idle, Operation, Period, Pieces, Rate, Read, Restore, RestoreEmptied, Save, Tick, Write,
+};
 use random::Random;
 use sides::{Port, Side};
 use std::env;
@@ -51,6 +53,9 @@ fn calls(clock: f64) {
     row(clock, "save, 1,000 pending", Some(1.0 / 1.5), Save { pending: 1000 });
     row(clock, "restore, none pending", Some(1.0 / 3.0), Restore { pending: 0 });
     row(clock, "restore, 1,000 pending", Some(1.0 / 3.0), Restore { pending: 1000 });
+    // The Rust has one restore, which takes crowded lists.
+    row(clock, "restore emptied, 1,000 pending", Some(1.0 / 3.0), RestoreEmptied { pending: 1000, crowded: false });
+    row(clock, "restore emptied, 1,000 crowded", Some(1.0 / 3.0), RestoreEmptied { pending: 1000, crowded: true });
 }
 
 /// How the cost grows with frames, pieces and pending positions.
@@ -112,7 +117,7 @@ fn row_against<R: Side, O: Operation>(clock: f64, name: &str, aim: Option<f64>, 
     println!("{}", times.row(name, aim));
 }
 
-/// Both give the same and leave the same; times of two that differ would say nothing.
+/// Both give the same and leave the same, or what the operation says; times of two that differ would say nothing.
 fn compare<R: Side, O: Operation>(name: &str, operation: &O) {
     let (mut rust, mut port) = (R::new(), Port::new());
     let [mut for_rust, mut for_port] = [SEED; 2].map(Random::new);
@@ -125,7 +130,7 @@ fn compare<R: Side, O: Operation>(name: &str, operation: &O) {
             assert_eq!(rust.saved().len(), 748 + 8 * pending, "{name}: pending at turn {turn}");
         }
         assert_eq!(operation.run(&mut rust, turn), operation.run(&mut port, turn), "{name}: results at turn {turn}");
-        assert!(rust.saved() == port.saved(), "{name}: states at turn {turn}");
+        assert!(operation.expected(rust.saved()) == port.saved(), "{name}: states at turn {turn}");
         assert!(rust.memory() == port.memory(), "{name}: guest memory at turn {turn}");
         assert!(rust.queues() == port.queues(), "{name}: queues at turn {turn}");
         assert!(rust.buffer() == port.buffer(), "{name}: the hosts' buffers at turn {turn}");

@@ -1,7 +1,7 @@
 //! What is timed.
 use crate::sides::{FRAME, Side};
 use bench::noise;
-use port::layout::QUEUE;
+use port::layout::{QUEUE, STATE, device, get, put, stream};
 use random::Random;
 use std::hint::black_box;
 
@@ -30,6 +30,10 @@ pub trait Operation {
     /// Positions pending when a run starts, where that is what the operation is about.
     fn pending(&self) -> Option<usize> {
         None
+    }
+    /// The state that the port is to have after a run, from the Rust's: the same, where the operation does not part them.
+    fn expected(&self, rust: Vec<u8>) -> Vec<u8> {
+        rust
     }
 }
 
@@ -391,5 +395,42 @@ impl Operation for Restore {
     }
     fn pending(&self) -> Option<usize> {
         Some(self.pending)
+    }
+}
+
+/// The device takes its own state by the call for crowded lists.
+pub struct RestoreEmptied {
+    /// As for [`Save`]; at least 256 where the list is crowded.
+    pub pending: usize,
+    /// Whether the last position is kept a byte lower, close to the one before: so all are read before the list is found to be crowded.
+    pub crowded: bool,
+}
+
+impl Operation for RestoreEmptied {
+    const TIMES: usize = 8;
+
+    fn set_up(&self, side: &mut impl Side) {
+        hold(side, self.pending);
+        side.keep();
+        if self.crowded {
+            let kept = side.kept();
+            let last = kept.len() - 8;
+            put::<8>(kept, last, get::<8>(kept, last) - 1);
+        }
+    }
+    fn run(&self, side: &mut impl Side, _: usize) -> usize {
+        side.restore_emptied();
+        0
+    }
+    fn pending(&self) -> Option<usize> {
+        Some(self.pending)
+    }
+    /// The port has no positions where the list was crowded; the Rust keeps them.
+    fn expected(&self, mut rust: Vec<u8>) -> Vec<u8> {
+        if self.crowded {
+            rust.truncate(STATE);
+            put::<4>(&mut rust, device::stream(1) + stream::PENDING, 0);
+        }
+        rust
     }
 }

@@ -24,9 +24,13 @@ pub trait Side {
     /// Saves as the side's caller would, and gives the length.
     fn save(&mut self) -> usize;
     fn saved(&mut self) -> Vec<u8>;
-    /// Keeps its state, which `restore` then takes.
+    /// Keeps its state, which the two below then take.
     fn keep(&mut self);
+    /// What is kept, to be edited.
+    fn kept(&mut self) -> &mut [u8];
     fn restore(&mut self);
+    /// As the port's call for crowded lists; the Rust has none, and takes them by its restore.
+    fn restore_emptied(&mut self);
     fn memory(&mut self) -> &mut [u8];
     /// The bytes queued, for capture and for playback.
     fn queues(&self) -> [Vec<u8>; 2];
@@ -90,8 +94,14 @@ impl Side for Port {
     fn keep(&mut self) {
         self.kept = self.saved();
     }
+    fn kept(&mut self) -> &mut [u8] {
+        &mut self.kept
+    }
     fn restore(&mut self) {
         assert_eq!(self.machine.restore(&self.kept).number, 0);
+    }
+    fn restore_emptied(&mut self) {
+        assert_eq!(self.machine.restore_emptied(&self.kept).number, 0);
     }
     fn memory(&mut self) -> &mut [u8] {
         &mut self.memory
