@@ -1,6 +1,7 @@
 -- `positions::spaced` meets its contract. The invariant: the positions from `i` on, behind `last`, decide the answer. Assumes nothing.
-use Prim.Native.Nat.{_+_, _-_, _≤_}
+use Prim.Native.Nat.{_+_, _-_, _≤_, _<_}
 use mathlib.Core.Path.{_≡_, sym, ap, _∙_}
+use mathlib.Core.Bool.{false}
 use native.Mathlib.Omega.{arith}
 use borrow.Author.Tests.{lt-leb}
 use lib.ListN.{drop}
@@ -29,25 +30,22 @@ loop-holds c =
     let a = start .args in
     (omega arith, omega arith, space-first (a .n) (a .list .now) (first .get .result) (a .offset) (a .hi) (omega arith) (first .get .ensures))
 
-returns-2 : tie.Need-returns-2 Inv-loop μ-loop
-returns-2 c =
-    let read : tie.After-get2 Inv-loop μ-loop = search in
+-- a position below the one before it, or too close to it
+too-close : (read : tie.After-get2 Inv-loop μ-loop) → read .get2 .result < read .before .before .loop .last + 4
+    → let a = read .before .before .before .before .before .before .args in false ≡ spacedOf (a .offset) (a .hi) (positionsOf (a .n) (a .list .now))
+too-close read close =
     let within : tie.In-loop Inv-loop μ-loop = search in
     let head : tie.At-loop Inv-loop μ-loop = search in
     let start : tie.Start Inv-loop μ-loop = search in
     let l = head .loop in
     let a = start .args in
-    sym (space-less (a .n) (a .list .now) (l .i) (read .get2 .result) (within .loop-test .taken) (read .get2 .ensures) (l .last) (a .offset) (a .hi) (omega arith)) ∙ l .inv .2
+    sym (space-less (a .n) (a .list .now) (l .i) (read .get2 .result) (within .loop-test .taken) (read .get2 .ensures) (l .last) (a .offset) (a .hi) close) ∙ l .inv .2
+
+returns-2 : tie.Need-returns-2 Inv-loop μ-loop
+returns-2 c = let read : tie.After-get2 Inv-loop μ-loop = search in too-close read (omega arith)
 
 returns-3 : tie.Need-returns-3 Inv-loop μ-loop
-returns-3 c =
-    let read : tie.After-get2 Inv-loop μ-loop = search in
-    let within : tie.In-loop Inv-loop μ-loop = search in
-    let head : tie.At-loop Inv-loop μ-loop = search in
-    let start : tie.Start Inv-loop μ-loop = search in
-    let l = head .loop in
-    let a = start .args in
-    sym (space-less (a .n) (a .list .now) (l .i) (read .get2 .result) (within .loop-test .taken) (read .get2 .ensures) (l .last) (a .offset) (a .hi) (omega arith)) ∙ l .inv .2
+returns-3 c = let read : tie.After-get2 Inv-loop μ-loop = search in too-close read (omega arith)
 
 loop-again : tie.Need-loop-again Inv-loop μ-loop
 loop-again c =
