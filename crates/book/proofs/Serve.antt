@@ -35,7 +35,7 @@ use Rattle.book.proofs.Turns.{Same, opened-same, formatted-tied}
 use Rattle.book.proofs.Machines.{Held, part-size, held-own-list, held-other-list}
 
 -- nothing is asked of a stream
-anything : Kept (λ s q l. Unit {0})
+pub anything : Kept (λ s q l. Unit {0})
 anything =
     record {
       times = λ s q l fraction _ h. tt;

@@ -73,7 +73,7 @@ module _ (i : ℕ) (e : Engine) (regs : List ℕ) (few : i < streams) (sized : l
   placed-size : length placed ≡ size
   placed-size = length-store 4 (lpib i) (e .position) stated fits ∙ length-set regs (sts i) (e .status) ∙ sized
 
-  stored-size : length (storeEngine i e regs) ≡ size
+  pub stored-size : length (storeEngine i e regs) ≡ size
   unfolding storeEngine
   stored-size =
       by-cond (λ (l : List ℕ). length l ≡ size) (e .running) placed (keepBits (ctl i) 0xfd placed) (λ _. placed-size) (λ _. length-set placed (ctl i) _ ∙ placed-size)
@@ -85,7 +85,7 @@ module _ (i : ℕ) (e : Engine) (regs : List ℕ) (few : i < streams) (sized : l
       by-cond (λ (l : List ℕ). wordAt 4 (lpib i) l ≡ e .position) (e .running) placed (keepBits (ctl i) 0xfd placed) (λ _. there)
       (λ _. word-set 4 (lpib i) (ctl i) _ placed (inr (omega arith)) ∙ there)
 
-  stored-elsewhere : (n at : ℕ) → (at + n ≤ baseOf i) ⊎ (baseOf i + 8 ≤ at) → wordAt n at (storeEngine i e regs) ≡ wordAt n at regs
+  pub stored-elsewhere : (n at : ℕ) → (at + n ≤ baseOf i) ⊎ (baseOf i + 8 ≤ at) → wordAt n at (storeEngine i e regs) ≡ wordAt n at regs
   unfolding storeEngine
   stored-elsewhere n at h =
       let near : (at + n ≤ sts i) ⊎ (sts i < at) = ⊎-elim (λ (b : at + n ≤ baseOf i). inl (omega arith)) (λ (b : baseOf i + 8 ≤ at). inr (omega arith)) h in
@@ -97,7 +97,7 @@ module _ (i : ℕ) (e : Engine) (regs : List ℕ) (few : i < streams) (sized : l
 
 -- every turn ends with an engine put back
 module _ (regs : List ℕ) (codec : Codec) (h : Host) (microphone : Bool) (i nanos limit : ℕ) (s : Stream) (l part m : List ℕ) where
-  turn-regs : (P : List ℕ → Type 0) → ((e : Engine) → P (storeEngine i e regs)) → P (turnOf regs codec h microphone i nanos limit s l part m .regs)
+  pub turn-regs : (P : List ℕ → Type 0) → ((e : Engine) → P (storeEngine i e regs)) → P (turnOf regs codec h microphone i nanos limit s l part m .regs)
   unfolding turnOf
   turn-regs P stores = go (formatOf (wordAt 2 (fmt i) regs))
     where

@@ -275,7 +275,7 @@ setup-buffered : (regs : List ℕ) (codec : Codec) (i downstream limit n : ℕ) 
 unfolding setupOf
 setup-buffered regs codec i downstream limit n = refl
 
-setup-capture : (regs : List ℕ) (codec : Codec) (i downstream limit : ℕ) → setupOf regs codec i downstream limit .cyclic .capture ≡ captures i
+pub setup-capture : (regs : List ℕ) (codec : Codec) (i downstream limit : ℕ) → setupOf regs codec i downstream limit .cyclic .capture ≡ captures i
 unfolding setupOf
 setup-capture regs codec i downstream limit = refl
 

@@ -1,0 +1,26 @@
+-- How soon a stall is over (request T-10). Asked of the first machine is what its type says alone: what the calls' checks ask of it, their answers say, so that it is any that demand 3 may leave, and any other.
+use Prim.Native.Nat.{ℕ, _+_, _-_, _*_, _≤_, _<_}
+use mathlib.Core.Path.{_≡_}
+use mathlib.Core.Bool.{false}
+use mathlib.Core.List.{List}
+use lib.ListN.{length}
+use Rattle.stream.specs.Box.{streams, captures}
+use Rattle.device.specs.Machines.{Machine}
+use Rattle.book.specs.Lists.{run}
+use Rattle.catchup.specs.Callbacks.{Callback, stepsOf, deferredOf, submittedOf, Runs, Running, Throughout, AllGoOn, Sized}
+
+-- says it of playback stream i
+pub record CatchesUp (i : ℕ) : Type 0 where
+  -- every callback takes 256 frames, while there are any
+  pub each : (cs : List Callback) (x : Machine) → Sized (x .hda) → Throughout i 256 cs x → deferredOf i (run (stepsOf cs) x) ≤ deferredOf i x - 256 * length cs
+  -- so 32 empty them
+  pub over : (cs : List Callback) (x : Machine) → Sized (x .hda) → Throughout i 256 cs x → 32 ≤ length cs → deferredOf i (run (stepsOf cs) x) ≡ 0
+  -- and where no failure has stopped the stream, each frame that is no longer deferred was moved: none is dropped
+  pub moved : (cs : List Callback) (x : Machine) → Sized (x .hda) → Throughout i 256 cs x
+      → let y = run (stepsOf cs) x in
+      Runs i (y .hda) → submittedOf i y + 4 * deferredOf i y ≡ submittedOf i x + 4 * deferredOf i x
+  -- what holds at the start lasts while no call is refused and the stream runs
+  pub lasts : (cs : List Callback) (x : Machine) → Sized (x .hda) → Running i (x .hda) → AllGoOn i 256 cs x → Throughout i 256 cs x
+
+pub record CatchUp : Type 0 where
+  pub every : (i : ℕ) → i < streams → captures i ≡ false → CatchesUp i
