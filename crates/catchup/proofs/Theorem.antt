@@ -44,6 +44,12 @@ rounded-up m due n some h =
     go : (k : ℕ) → due + (m - 1) < k + m → k ≡ m * n → due ≤ m * n
     go k b e = omega arith
 
+pub none-left : (frames : ℕ) → 0 < frames → (due left n : ℕ) → callbacksFor frames due ≤ n → left ≤ due - takenBy frames * n → left ≡ 0
+none-left frames some due left n h l = none (takenBy frames * n) (rounded-up (takenBy frames) due n (omega arith) h) l
+  where
+    none : (k : ℕ) → due ≤ k → left ≤ due - k → left ≡ 0
+    none k all l = omega arith
+
 pub sounds : (frames deferred : ℕ) → 0 < frames → frames ≤ capacity / 4 → (deferred ≤ frames * callbacksFor frames deferred) × (frames * callbacksFor frames deferred < deferred + frames)
 sounds frames deferred some few =
     let all : takenBy frames ≡ frames = omega arith in
@@ -111,15 +117,16 @@ module _ (i : ℕ) (own : i < streams) (plays : captures i ≡ false) where
   ran frames [] x t on = on
   ran frames (c ∷ cs) x t on = t .0 .running .runs
 
-  pub moved : (cs : List Callback) (x : Machine) → Sized (x .hda) → Throughout i 256 cs x → let y = run (stepsOf cs) x in
+  pub moved : (frames : ℕ) (cs : List Callback) (x : Machine) → Sized (x .hda) → Throughout i frames cs x
+      → let y = run (stepsOf cs) x in
       Runs i (y .hda) → submittedOf i y + 4 * deferredOf i y ≡ submittedOf i x + 4 * deferredOf i x
   unfolding run
-  moved [] x sized t on = refl
-  moved (c ∷ cs) x sized t on =
-      moved cs (leftBy c x) (left-stays c x sized .sized) (t .1) on ∙ moved-one 256 c x sized (t .0) (ran 256 cs (leftBy c x) (t .1) on)
+  moved frames [] x sized t on = refl
+  moved frames (c ∷ cs) x sized t on =
+      moved frames cs (leftBy c x) (left-stays c x sized .sized) (t .1) on ∙ moved-one frames c x sized (t .0) (ran frames cs (leftBy c x) (t .1) on)
 
   -- ---- what holds at the start lasts
-  running-on : (c : Callback) (x : Machine) → Sized (x .hda) → Running i (x .hda) → Runs i (leftBy c x .hda) → Running i (leftBy c x .hda)
+  pub running-on : (c : Callback) (x : Machine) → Sized (x .hda) → Running i (x .hda) → Runs i (leftBy c x .hda) → Running i (leftBy c x .hda)
   unfolding dmaOf
   running-on c x sized r on =
       let k = left-stays c x sized in
@@ -129,17 +136,17 @@ module _ (i : ℕ) (own : i < streams) (plays : captures i ≡ false) where
   unfolding after
   serves frames c x r g = record { asks = g .asks; running = r; answered = g .answered }
 
-  pub lasts : (cs : List Callback) (x : Machine) → Sized (x .hda) → Running i (x .hda) → AllGoOn i 256 cs x → Throughout i 256 cs x
-  lasts [] x sized r g = tt
-  lasts (c ∷ cs) x sized r g = (serves 256 c x r (g .0), lasts cs (leftBy c x) (left-stays c x sized .sized) (running-on c x sized r (g .0 .runs)) (g .1))
+  pub lasts : (frames : ℕ) (cs : List Callback) (x : Machine) → Sized (x .hda) → Running i (x .hda) → AllGoOn i frames cs x → Throughout i frames cs x
+  lasts frames [] x sized r g = tt
+  lasts frames (c ∷ cs) x sized r g = (
+    serves frames c x r (g .0),
+    lasts frames cs (leftBy c x) (left-stays c x sized .sized) (running-on c x sized r (g .0 .runs)) (g .1),
+  )
 
   -- ---- the formula
   pub gone : (frames : ℕ) → 0 < frames → (cs : List Callback) (x : Machine) → Sized (x .hda) → Throughout i frames cs x → callbacksFor frames (deferredOf i x) ≤ length cs
       → deferredOf i (run (stepsOf cs) x) ≡ 0
-  gone frames some cs x sized t enough = none (takenBy frames) (deferredOf i x) (deferredOf i (run (stepsOf cs) x)) (length cs) (omega arith) enough (all-late frames cs x sized t)
-    where
-      none : (m due left n : ℕ) → 0 < m → (due + (m - 1)) / m ≤ n → left ≤ due - m * n → left ≡ 0
-      none m due left n some h l = let all = rounded-up m due n some h in omega arith
+  gone frames some cs x sized t enough = none-left frames some (deferredOf i x) (deferredOf i (run (stepsOf cs) x)) (length cs) enough (all-late frames cs x sized t)
 
   -- ---- and it is met
   nothing-left : (frames : ℕ) (cs : List Callback) (x : Machine) → Sized (x .hda) → Throughout i frames cs x → deferredOf i x ≡ 0 → deferredOf i (run (stepsOf cs) x) ≡ 0

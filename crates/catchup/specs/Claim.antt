@@ -15,12 +15,12 @@ pub record CatchesUp (i : ℕ) : Type 0 where
   pub each : (cs : List Callback) (x : Machine) → Sized (x .hda) → Throughout i 256 cs x → deferredOf i (run (stepsOf cs) x) ≤ deferredOf i x - 256 * length cs
   -- so 32 empty them
   pub over : (cs : List Callback) (x : Machine) → Sized (x .hda) → Throughout i 256 cs x → 32 ≤ length cs → deferredOf i (run (stepsOf cs) x) ≡ 0
-  -- and where no failure has stopped the stream, each frame that is no longer deferred was moved: none is dropped
-  pub moved : (cs : List Callback) (x : Machine) → Sized (x .hda) → Throughout i 256 cs x
+  -- and where no failure has stopped the stream, each frame that is no longer deferred was moved: none is dropped, however many are pulled
+  pub moved : (frames : ℕ) (cs : List Callback) (x : Machine) → Sized (x .hda) → Throughout i frames cs x
       → let y = run (stepsOf cs) x in
       Runs i (y .hda) → submittedOf i y + 4 * deferredOf i y ≡ submittedOf i x + 4 * deferredOf i x
   -- what holds at the start lasts while no call is refused and the stream runs
-  pub lasts : (cs : List Callback) (x : Machine) → Sized (x .hda) → Running i (x .hda) → AllGoOn i 256 cs x → Throughout i 256 cs x
+  pub lasts : (frames : ℕ) (cs : List Callback) (x : Machine) → Sized (x .hda) → Running i (x .hda) → AllGoOn i frames cs x → Throughout i frames cs x
 
 pub record CatchUp : Type 0 where
   pub every : (i : ℕ) → i < streams → captures i ≡ false → CatchesUp i

@@ -34,7 +34,7 @@ use Rattle.book.specs.Claim.{Accepts}
 use Rattle.lent_calls.specs.Calls.{on, callOf, withMemory}
 use Rattle.lent_book.specs.Claim.{Accepted}
 
-abbrev Small : ℕ → Type 0
+abbrev pub Small : ℕ → Type 0
 Small n = n < 256
 
 -- ---- the numbers of a state and of the check
@@ -45,13 +45,13 @@ number-small strict s d h =
     by-cond Small (eqb n 0) _ n (λ _. by-cond Small (refusedFrom streams 0 s (d .microphone) h) 1 0 (λ _. omega arith) (λ _. omega arith))
     (λ _. parse.number-small (numbers strict s (d .microphone) (d .config)))
 
-check-small : (d : Hda) (h : Host) (l : List ℕ) (q : ℕ) → Small (checkOf d h l q)
+pub check-small : (d : Hda) (h : Host) (l : List ℕ) (q : ℕ) → Small (checkOf d h l q)
 unfolding checkOf
 check-small d h l q =
     let good = devices.validOf d l && hosts.validOf h in
     by-cond Small (shortOf (length l) q) 10 (cond good 0 9) (λ _. omega arith) (λ _. by-cond Small good 0 9 (λ _. omega arith) (λ _. omega arith))
 
-unreadable-some : (lists queues : ℕ) → unreadableOf lists queues % 256 ≡ 0 → ⊥
+pub unreadable-some : (lists queues : ℕ) → unreadableOf lists queues % 256 ≡ 0 → ⊥
 unreadable-some lists queues = by-cond (λ (n : ℕ). n % 256 ≡ 0 → ⊥) (shortOf lists queues) 10 9 (λ _ z. omega arith) (λ _ z. omega arith)
 
 check-other : (d : Hda) (h : Host) (l : List ℕ) (q : ℕ) → checkOf d h l q % 256 ≡ 20 → ⊥

@@ -1,0 +1,10 @@
+-- `corollaries_bytes` meets its contract: the formula, and that it is met.
+use Rattle.lent_catchup.proofs.Theorem.{gone, exact}
+use Rattle.lent_catchup.proofs.corollaries_bytes.Statement.{statement}
+use Rattle.lent_catchup.proofs.corollaries_bytes.Tie as tie
+
+returns : tie.Need-returns
+returns c = record { counted = λ i own plays. record { gone = gone i own plays; exact = exact i own plays } }
+
+pub corollaries-bytes-spec : {M : Type 1} → statement M
+corollaries-bytes-spec = tie.close (tie.spec returns)

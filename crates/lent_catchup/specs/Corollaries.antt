@@ -1,0 +1,35 @@
+-- In how many callbacks (request T-10), on bytes: the formula for pulls of any size, and that it is met.
+use Prim.Native.Nat.{ℕ, _-_, _*_, _/_, _≤_, _<_}
+use mathlib.Core.Path.{_≡_}
+use mathlib.Core.Bool.{true, false}
+use mathlib.Core.List.{List, [], _∷_}
+use lib.ListN.{length}
+use Rattle.word.specs.Value.{Bytes}
+use Rattle.stream.specs.Box.{streams, captures}
+use Rattle.queue.specs.Queues.{capacity, queue}
+use Rattle.port_device.specs.Calls.{Lent}
+use Rattle.lent_book.specs.Lists.{run}
+use Rattle.catchup.specs.Corollaries.{callbacksFor}
+use Rattle.lent_catchup.specs.Callbacks.{Callback, stepsOf, beforePull, leftBy, deferredIn, queueIn, RunsIn, Throughout}
+
+-- each pull wants exactly so many frames, and finds the stream's queue as it was left
+abbrev pub Exactly : ℕ → ℕ → List Callback → Lent → Type 0
+Exactly i frames [] x = Unit {0}
+Exactly i frames (c ∷ cs) x = (length (c .into) ≡ 4 * frames) × (queueIn i (beforePull c x) ≡ queueIn i x) × Exactly i frames cs (leftBy c x)
+
+-- the stream is open, and its queue takes no more
+abbrev pub Full : ℕ → Lent → Type 0
+Full i x = queueIn i x ≡ queue true capacity
+
+-- says it of playback stream i
+pub record Counted (i : ℕ) : Type 0 where
+  -- d deferred frames are gone after that many callbacks
+  pub gone : (frames : ℕ) → 0 < frames → (cs : List Callback) (x : Lent) → Bytes (x .device) → Throughout i frames cs x
+      → callbacksFor frames (deferredIn i x) ≤ length cs → deferredIn i (run (stepsOf cs) x) ≡ 0
+  -- from a full queue each takes just what it pulls, while the stream runs: so fewer callbacks are not enough
+  pub exact : (frames : ℕ) → frames ≤ capacity / 4 → (cs : List Callback) (x : Lent) → Bytes (x .device) → Full i x → Throughout i frames cs x → Exactly i frames cs x
+      → let y = run (stepsOf cs) x in
+      RunsIn i y → deferredIn i y ≡ deferredIn i x - frames * length cs
+
+pub record CorollariesBytes : Type 0 where
+  pub counted : (i : ℕ) → i < streams → captures i ≡ false → Counted i

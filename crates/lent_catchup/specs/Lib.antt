@@ -1,0 +1,3 @@
+pub mod Callbacks
+pub mod Claim
+pub mod Corollaries
