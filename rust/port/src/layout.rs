@@ -14,6 +14,9 @@ pub const QUEUE: usize = 2048;
 /// Bytes that are lent at least for lists, and for queues.
 pub const LISTS: usize = STREAMS * LIST;
 pub const QUEUES: usize = STREAMS * QUEUE;
+/// The most whole frames that a stream defers, and what a whole frame is in a stream's time.
+pub const MAX_DEFERRED: usize = 8192;
+pub const FRAME_TIME: u64 = 1_000_000_000;
 /// The largest downstream count.
 pub const MAX_DOWNSTREAM: u32 = 14_336;
 /// Bytes of a saved state without pending positions, and most bytes of any.
@@ -51,6 +54,7 @@ pub mod stream {
     pub const OFFSET: usize = 2;
     pub const SUBMITTED: usize = 6;
     pub const CONSUMED: usize = 14;
+    /// Frames that are due and were not moved, in billionths.
     pub const TIME: usize = 22;
     pub const PENDING: usize = 30;
 }

@@ -1,5 +1,5 @@
 //! A device with its host end, and all that they are lent besides guest memory.
-use crate::layout::{DEVICE, HOST, LIST, LISTS, MAX_STATE, QUEUE, QUEUES, STREAMS, device, get, host, stream};
+use crate::layout::{DEVICE, FRAME_TIME, HOST, LIST, LISTS, MAX_STATE, QUEUE, QUEUES, STREAMS, device, get, host, stream};
 use crate::{Answer, Reply, calls, format, number};
 
 /// The records and lent spaces as bytes (docs/LAYOUT.md).
@@ -213,6 +213,11 @@ impl Machine {
         &queue[..length.min(QUEUE)]
     }
 
+    /// The whole frames that are due in a stream and were not moved: those of a playback whose queue is full wait for the host's pulls.
+    pub fn deferred(&self, which: Stream) -> u64 {
+        get::<8>(&self.bytes.device, device::stream(which.index()) + stream::TIME) / FRAME_TIME
+    }
+
     pub fn playback_fails(&self) -> bool {
         self.bytes.host[host::PLAYBACK_FAILS] != 0
     }
@@ -229,6 +234,7 @@ impl Machine {
 #[cfg(test)]
 mod tests {
     use super::*;
+    use crate::layout::MAX_DEFERRED;
 
     #[test]
     fn a_new_machine_answers() {
@@ -286,6 +292,38 @@ mod tests {
         }
         machine.advance(&mut memory, 0);
         assert_eq!((machine.rate(Stream::Playback), machine.open(Stream::Playback)), (None, false));
+    }
+
+    /// A device that plays a descriptor of a page at 48,000 frames a second.
+    fn playing(memory: &mut [u8]) -> Machine {
+        let mut machine = Machine::new(false);
+        memory[8..12].copy_from_slice(&4096_u32.to_le_bytes());
+        machine.config_write(memory, 1, 0, &[4]);
+        for (offset, bytes) in [(8, vec![1]), (0xa8, vec![0, 0x10]), (0xb2, vec![0x11, 0]), (0xa0, vec![2])] {
+            machine.write(memory, offset, &bytes);
+        }
+        machine
+    }
+
+    #[test]
+    fn frames_for_which_the_queue_has_no_room_are_deferred() {
+        let mut memory = [0; 4096];
+        let mut machine = playing(&mut memory);
+        // Not quite a frame, the rest of 512, not quite one more and the rest of it, 8,191 more, and a second beyond what can be deferred.
+        for (nanos, queued, deferred) in
+            [(20_833, 0, 0), (10_645_834, 512, 0), (20_832, 512, 0), (1, 512, 1), (170_645_834, 512, 8192), (1_000_000_000, 512, 8192)]
+        {
+            assert_eq!(machine.advance(&mut memory, nanos).number, number::DONE);
+            assert_eq!((machine.queue(Stream::Playback).len() / 4, machine.deferred(Stream::Playback)), (queued, deferred), "{nanos} ns");
+        }
+        assert_eq!((machine.deferred(Stream::Playback), machine.deferred(Stream::Capture)), (MAX_DEFERRED as u64, 0));
+        for left in [8192 - 256, 8192 - 512] {
+            assert_eq!(machine.pull(&mut [0; 1024]).value, 256);
+            machine.advance(&mut memory, 0);
+            assert_eq!(machine.deferred(Stream::Playback), left);
+        }
+        machine.write(&mut memory, 0xa0, &[0]);
+        assert_eq!(machine.deferred(Stream::Playback), 0, "stopped");
     }
 
     #[test]
