@@ -96,6 +96,11 @@ impl Bus {
         self.machine.queue(Stream::Playback)
     }
 
+    /// The whole frames that are due and that the device has not read, since the queue is full.
+    pub fn deferred(&self) -> usize {
+        self.machine.deferred(Stream::Playback) as usize
+    }
+
     pub fn store(&mut self, address: usize, bytes: &[u8]) {
         self.memory[address..address + bytes.len()].copy_from_slice(bytes);
     }

@@ -1,6 +1,7 @@
 //! What must hold of a take and of its file.
 use crate::guest::FRAME;
-use crate::session::Take;
+use crate::session::{Advance, CatchingUp, Take, due_after, lasting};
+use port::layout::{MAX_DEFERRED, QUEUE};
 use std::fs;
 use std::path::Path;
 
@@ -20,7 +21,7 @@ pub fn all(take: &Take, path: &Path) -> Vec<Check> {
 
 /// Those that need no file.
 fn of_take(take: &Take) -> Vec<Check> {
-    [
+    let mut checks: Vec<Check> = [
         ("commands", commands as fn(&Take) -> Result<String, String>),
         ("rate", rate),
         ("frames", frames),
@@ -28,7 +29,9 @@ fn of_take(take: &Take) -> Vec<Check> {
         ("interrupts", interrupts),
     ]
     .map(|(name, check)| Check { name, result: check(take) })
-    .into()
+    .into();
+    checks.extend(take.stall.map(|_| Check { name: "stall", result: stall(take) }));
+    checks
 }
 
 fn commands(take: &Take) -> Result<String, String> {
@@ -38,19 +41,42 @@ fn commands(take: &Take) -> Result<String, String> {
     Ok(format!("{} sent through the rings, each answered once, every setting read back", take.commands))
 }
 
-/// The host plays at the guest's rate, and after each tick the device has read the frames that were due by then, no more and no fewer.
+/// The host plays at the guest's rate, and after each call the device has read the frames that were due by then, no more and no fewer. While the host stalls it defers
+/// those for which the queue has no room, and all is later by what was due beyond the limit.
 fn rate(take: &Take) -> Result<String, String> {
     let rate = count(take.rate as usize);
     if take.rate != take.format.rate {
         return Err(format!("the guest plays {} frames a second, the device {rate}", count(take.format.rate as usize)));
     }
-    for tick in &take.ticks {
-        let (read, due) = (tick.read / FRAME, (tick.time * u64::from(take.rate) / 1_000_000_000) as usize);
-        if read != due {
-            return Err(format!("{} frames read at {} ms, where {} were due", count(read), tick.time / 1_000_000, count(due)));
+    let mut late = 0;
+    for advance in &take.advances {
+        late = late.max(beyond_limit(take, advance));
+        let due = due_after(advance.time, take.rate) - late;
+        let in_stall = take.stall.is_some_and(|stall| (stall.start..=stall.end()).contains(&advance.time));
+        let readable = if in_stall { due.min((advance.pulled + QUEUE) / FRAME) } else { due };
+        let (read, milliseconds) = (advance.read / FRAME, advance.time / 1_000_000);
+        if read != readable {
+            return Err(format!("{} frames read at {milliseconds} ms, where {} were due", count(read), count(readable)));
+        }
+        if advance.deferred != due - readable {
+            let [is, should] = [advance.deferred, due - readable].map(count);
+            return Err(format!("{is} frames deferred at {milliseconds} ms, where {should} found no room"));
         }
     }
-    Ok(format!("{rate} frames a second: after each tick the device has read what was due, to the frame"))
+    Ok(match (take.stall, late) {
+        (None, _) => format!("{rate} frames a second: after each tick the device has read what was due, to the frame"),
+        (_, 0) => format!("{rate} frames a second: after each call the device has read or deferred what was due, to the frame"),
+        _ => format!(
+            "{rate} frames a second: after each call the device has read or deferred what was due, to the frame; all is {} later, since {} at most are deferred",
+            number_of(late, "frame"),
+            count(MAX_DEFERRED)
+        ),
+    })
+}
+
+/// The frames that were due when a call ended, beyond those that the host had pulled, those that a queue holds and those that can be deferred.
+fn beyond_limit(take: &Take, advance: &Advance) -> usize {
+    due_after(advance.time, take.rate).saturating_sub((advance.pulled + QUEUE) / FRAME + MAX_DEFERRED)
 }
 
 /// What the device read is what the guest put in, from the first frame on: the host got it, or it was still queued.
@@ -80,18 +106,22 @@ fn frames(take: &Take) -> Result<String, String> {
 /// Each position is not before the last, and is what was pulled less what is not heard yet.
 fn position(take: &Take) -> Result<String, String> {
     let mut last = 0;
-    for tick in &take.ticks {
-        let milliseconds = tick.time / 1_000_000;
-        let heard = tick.pulled.saturating_sub(take.host.downstream);
-        if tick.position < last {
-            return Err(format!("fell from byte {} to {} at {milliseconds} ms", count(last), count(tick.position)));
+    for advance in &take.advances {
+        let milliseconds = advance.time / 1_000_000;
+        let heard = advance.pulled.saturating_sub(take.host.downstream);
+        if advance.position < last {
+            return Err(format!("fell from byte {} to {} at {milliseconds} ms", count(last), count(advance.position)));
         }
-        if tick.position != heard {
-            return Err(format!("byte {} at {milliseconds} ms, where {} were heard", count(tick.position), count(heard)));
+        if advance.position != heard {
+            return Err(format!("byte {} at {milliseconds} ms, where {} were heard", count(advance.position), count(heard)));
         }
-        last = tick.position;
+        last = advance.position;
     }
-    Ok(format!("read {} times: never falls, always the frames heard so far; at the end {}", count(take.ticks.len()), count(last / FRAME)))
+    Ok(format!(
+        "read {} times: never falls, always the frames heard so far; at the end {}",
+        count(take.advances.len()),
+        count(last / FRAME)
+    ))
 }
 
 /// The nth completion interrupt is served with the position past the nth descriptor end and before the next, and none is left out.
@@ -102,7 +132,7 @@ fn interrupts(take: &Take) -> Result<String, String> {
             return Err(format!("number {} at {} ms with {} descriptor ends passed", before + 1, time / 1_000_000, position / period));
         }
     }
-    let ends = take.ticks.last().map_or(0, |tick| tick.position / period);
+    let ends = take.advances.last().map_or(0, |advance| advance.position / period);
     if take.completions.len() != ends {
         return Err(format!("{} completions, {} descriptor ends passed", take.completions.len(), ends));
     }
@@ -110,6 +140,45 @@ fn interrupts(take: &Take) -> Result<String, String> {
         return Err(format!("{} messages for {} completions and {} responses", take.messages, take.completions.len(), take.responses));
     }
     Ok(format!("{ends} descriptor ends passed, {ends} completions, one message each with the guest's address and data"))
+}
+
+/// Each call of the catching up leaves no more frames deferred than the bound says and drops none, and the host needs no more calls than follow from the bound.
+fn stall(take: &Take) -> Result<String, String> {
+    let catching_up = take.catching_up().ok_or("the take ended before it was over")?;
+    let (CatchingUp { tick, calls, .. }, pull) = (&catching_up, take.host.frames);
+    for (number, call) in (1..).zip(*calls) {
+        let bound = tick.deferred.saturating_sub(pull * number);
+        if call.deferred > bound {
+            return Err(format!("{} frames deferred after call {number}, at most {} may be", count(call.deferred), count(bound)));
+        }
+        let [before, after] = [tick, call].map(|advance| advance.read / FRAME + advance.deferred);
+        if before != after {
+            return Err(format!("{} frames read or deferred after call {number}, {} before the first", count(after), count(before)));
+        }
+    }
+    let (most, left) = (tick.deferred.div_ceil(pull), calls.last().unwrap_or(tick).deferred);
+    if calls.len() > most || left != 0 {
+        return Err(format!("{} frames deferred after {}, {most} at most leave none", count(left), number_of(calls.len(), "call")));
+    }
+    Ok(over(take, &catching_up))
+}
+
+/// What a stall was, and how soon it was over.
+fn over(take: &Take, catching_up: &CatchingUp) -> String {
+    let CatchingUp { stall, tick, calls } = catching_up;
+    let stalled = format!("{} ms without a pull", count((stall.length / 1_000_000) as usize));
+    if tick.deferred == 0 {
+        return format!("{stalled}: 0 frames deferred, since the queue had room for all that was due; 0 calls needed");
+    }
+    let later = match catching_up.late(take.rate) {
+        0 => String::new(),
+        late => format!(", from then on {} ms later", milliseconds(late, take.rate)),
+    };
+    let (deferred, pull) = (count(tick.deferred), take.host.frames);
+    let (calls, most) = (number_of(calls.len(), "call"), tick.deferred.div_ceil(pull));
+    format!(
+        "{stalled}: {deferred} frames deferred{later}; caught up in {calls} of {pull} frames, at most {most} ({deferred} / {pull}); no frame dropped"
+    )
 }
 
 /// What stands in the file, read back by the proved reader, is what the host got.
@@ -141,20 +210,41 @@ pub fn count(number: usize) -> String {
     text
 }
 
+/// So many of what a noun names.
+pub fn number_of(number: usize, noun: &str) -> String {
+    format!("{} {noun}{}", count(number), if number == 1 { "" } else { "s" })
+}
+
+/// The milliseconds that so many frames last, to a tenth.
+pub fn milliseconds(frames: usize, rate: u32) -> String {
+    let tenths = (lasting(frames, rate) + 50_000) / 100_000;
+    format!("{}.{}", count((tenths / 10) as usize), tenths % 10)
+}
+
 #[cfg(test)]
 mod tests {
     use super::*;
     use crate::bus::Outcome;
     use crate::format::{FORMATS, Format};
     use crate::guest::Ring;
-    use crate::session::{Host, play};
+    use crate::session::{Host, Stall, TICK, play};
     use port::wav;
     use std::{env, process};
 
-    fn take_at(rate: u32, word: u16, (period, periods): (usize, usize), downstream: usize) -> Outcome<Take> {
+    fn take_with(stall: Option<Stall>, format: Format, (period, periods): (usize, usize), downstream: usize) -> Outcome<Take> {
         // No two frames alike.
         let sound: Vec<u8> = (1..20_000_u32).flat_map(u32::to_le_bytes).collect();
-        play(&sound, Format { rate, word }, Ring { period, periods }, Host { frames: 256, lead: 384, downstream }, |_| ())
+        play(&sound, format, Ring { period, periods }, Host { frames: 256, lead: 384, downstream }, stall, |_| ())
+    }
+
+    fn take_at(rate: u32, word: u16, ring: (usize, usize), downstream: usize) -> Outcome<Take> {
+        take_with(None, Format { rate, word }, ring, downstream)
+    }
+
+    /// One whose host stalls after a tenth of a second.
+    fn stalled(format: Format, milliseconds: u64) -> Take {
+        let stall = Stall { start: 100 * TICK, length: milliseconds * TICK };
+        take_with(Some(stall), format, (4800, 4), 3840).unwrap()
     }
 
     fn take(period: usize, periods: usize, downstream: usize) -> Take {
@@ -220,17 +310,84 @@ mod tests {
             failing(&take)
         };
         assert_eq!(wrong(|take| take.rate = 44_100), ["rate"]);
-        assert_eq!(wrong(|take| take.ticks[200].read += 4), ["rate"]);
+        assert_eq!(wrong(|take| take.advances[200].read += 4), ["rate"]);
         assert_eq!(wrong(|take| take.pulled[40_000] ^= 1), ["frames"]);
         assert_eq!(wrong(|take| _ = take.pulled.drain(40_000..40_004)), ["frames"]);
         assert_eq!(wrong(|take| take.queued[1] ^= 1), ["frames"]);
         assert_eq!(wrong(|take| take.pulled.truncate(40_000)), ["frames"]);
-        assert_eq!(wrong(|take| take.ticks[200].position -= 4), ["position"]);
+        assert_eq!(wrong(|take| take.advances[200].position -= 4), ["position"]);
         assert_eq!(wrong(|take| _ = take.completions.remove(7)), ["interrupts"]);
         assert_eq!(wrong(|take| take.completions.insert(7, take.completions[7])), ["interrupts"]);
         assert_eq!(wrong(|take| _ = take.completions.pop()), ["interrupts"]);
         assert_eq!(wrong(|take| take.messages += 1), ["interrupts"]);
         assert_eq!(wrong(|take| take.responses -= 1), ["commands", "interrupts"]);
+    }
+
+    /// Too short to defer anything, up to longer than can be deferred.
+    const STALLS: [u64; 10] = [1, 5, 11, 12, 50, 100, 181, 182, 250, 1000];
+
+    /// What is due at the end of a stall, less what was pulled and what the queue holds, is deferred up to the limit; each call takes a pull of it.
+    #[test]
+    fn takes_with_a_stall_pass_and_catch_up_in_as_many_calls_as_the_deferred_frames_ask_for() {
+        for (format, milliseconds) in FORMATS.into_iter().flat_map(|format| STALLS.map(|milliseconds| (format, milliseconds))) {
+            let take = stalled(format, milliseconds);
+            let CatchingUp { stall, tick, calls } = take.catching_up().unwrap();
+            let beyond_queue = due_after(stall.end(), format.rate).saturating_sub(tick.pulled / 4 + 512);
+            let deferred: Vec<usize> = [&tick].into_iter().chain(calls).map(|advance| advance.deferred).collect();
+            let at_first = beyond_queue.min(8192);
+            let falling: Vec<usize> = (0..=at_first.div_ceil(256)).map(|call| at_first.saturating_sub(256 * call)).collect();
+            assert_eq!((failing(&take), deferred), (vec![], falling), "{milliseconds} ms at {}", format.rate);
+        }
+    }
+
+    #[test]
+    fn a_stall_loses_time_and_no_frame() {
+        for format in FORMATS {
+            let calm = take_with(None, format, (4800, 4), 3840).unwrap();
+            for take in STALLS.map(|milliseconds| stalled(format, milliseconds)) {
+                assert_eq!(take.pulled[..take.sound], calm.pulled[..take.sound]);
+                let late = take.catching_up().unwrap().late(format.rate);
+                // The host's schedule is as fine as a tick.
+                let apart = (take.ticks() - calm.ticks()) as u64 * TICK;
+                assert!(apart.abs_diff(lasting(late, format.rate)) <= TICK, "{apart} ns for {late} frames");
+            }
+        }
+    }
+
+    #[test]
+    fn a_stall_is_told() {
+        let told = |milliseconds| stall(&stalled(FORMATS[1], milliseconds)).unwrap();
+        assert_eq!(told(1), "1 ms without a pull: 0 frames deferred, since the queue had room for all that was due; 0 calls needed");
+        assert_eq!(
+            told(8),
+            "8 ms without a pull: 64 frames deferred; caught up in 1 call of 256 frames, at most 1 (64 / 256); no frame dropped"
+        );
+        assert_eq!(
+            told(1000),
+            "1,000 ms without a pull: 8,192 frames deferred, from then on 822.7 ms later; caught up in 32 calls of 256 frames, at most 32 (8,192 / 256); no frame dropped"
+        );
+    }
+
+    #[test]
+    fn what_is_wrong_after_a_stall_is_seen() {
+        let wrong = |change: fn(&mut Take, usize)| {
+            let mut take = stalled(FORMATS[1], 250);
+            let first_call = take.advances.iter().position(|advance| advance.nanos == 0).unwrap();
+            change(&mut take, first_call);
+            failing(&take)
+        };
+        assert_eq!(wrong(|_, _| ()), [""; 0]);
+        assert_eq!(wrong(|take, call| take.advances.insert(call + 31, take.advances[call + 31])), ["stall"]);
+        assert_eq!(wrong(|take, call| _ = take.advances.remove(call + 31)), ["stall"]);
+        assert_eq!(wrong(|take, call| take.advances[call + 9].deferred += 1), ["rate", "stall"]);
+        assert_eq!(wrong(|take, call| take.advances[call + 9].deferred -= 1), ["rate", "stall"]);
+        assert_eq!(wrong(|take, call| take.advances[call + 9].read -= 4), ["rate", "stall"]);
+        assert_eq!(wrong(|take, call| take.advances[call + 9].position -= 4), ["position"]);
+        assert_eq!(wrong(|take, call| take.advances[call - 1].deferred -= 1), ["rate", "stall"]);
+        assert_eq!(wrong(|take, _| take.pulled[40_000] ^= 1), ["frames"]);
+        // The same take as if there had been no stall, or one that was never over.
+        assert_eq!(wrong(|take, _| take.stall = None), ["rate"]);
+        assert_eq!(wrong(|take, _| take.stall = take.stall.map(|stall| Stall { length: 10_000 * TICK, ..stall })), ["stall"]);
     }
 
     /// The check of a take with these bytes in its file, which `test` names.
@@ -292,5 +449,11 @@ mod tests {
     #[test]
     fn thousands_are_set_apart() {
         assert_eq!([0, 999, 1000, 1_234_567].map(count), ["0", "999", "1,000", "1,234,567"]);
+    }
+
+    #[test]
+    fn frames_last_milliseconds_to_a_tenth() {
+        let lasting = [(0, 48_000), (8192, 44_100), (8192, 48_000), (512, 96_000), (88_200, 44_100), (95, 96_000)];
+        assert_eq!(lasting.map(|(frames, rate)| milliseconds(frames, rate)), ["0.0", "185.8", "170.7", "5.3", "2,000.0", "1.0"]);
     }
 }
