@@ -2,24 +2,27 @@
 //!
 //! After each call: the number is one that document 01 gives here, 9 and 10 exactly where its conditions say so; a refusal has changed no byte, and any call only what
 //! docs/LAYOUT.md says; a machine that a call accepted is still valid; a restored machine is the one that document 01 says, or T-09 for crowded lists. After a new device and
-//! after an accepted state no list gets crowded, whatever is called, and what is then saved is not refused as such. A call on a take returns and leaves exactly what
-//! T-02 says. Round R of a seed is round 0 of seed + R. That a call returns is seen by the run's end.
+//! after an accepted state no list gets crowded, whatever is called, and what is then saved is not refused as such. A stall is over as soon as T-10 says, and no frame of it
+//! is lost. A call on a take returns and leaves exactly what T-02 says. Round R of a seed is round 0 of seed + R. That a call returns is seen by the run's end.
 mod files;
 mod running;
 mod stored;
 
 use fuzz::any::{Call, Handed, Lent, is_valid_downstream};
-use fuzz::{states, takes};
+use fuzz::catchup::Tally;
+use fuzz::{stalled, states, takes};
 use port::layout::{DEVICE, HOST, LIST, LISTS, MAX_STATE, POSITIONS, QUEUES, STATE, STREAMS, device, get, host, put, stream};
 use port::{Machine, Reply, number};
 use random::Random;
 use std::collections::BTreeMap;
 use std::process::ExitCode;
 
-/// Calls of a round on a machine, on one that runs, and on takes.
+/// Calls of a round on a machine, on one that runs, and on takes; its machines in a stall, and the most visits of the host of each.
 const CALLS: usize = 40;
 const RUNNING: usize = 20;
 const TAKES: usize = 20;
+const STALLED: usize = 2;
+const VISITS: u64 = 40;
 
 fn main() -> ExitCode {
     let words: Vec<Option<u64>> = std::env::args().skip(1).map(|word| word.parse().ok()).collect();
@@ -30,7 +33,7 @@ fn main() -> ExitCode {
     let mut seen = Seen::default();
     for round in 0..rounds {
         let seed = seed.wrapping_add(round);
-        for play in [play, play_running, play_takes] {
+        for play in [play, play_running, play_stalled, play_takes] {
             if let Err(error) = play(seed, &mut seen) {
                 println!("fuzz {seed} 1: {error}");
                 return ExitCode::FAILURE;
@@ -41,7 +44,10 @@ fn main() -> ExitCode {
         println!("{count:>9}  {name}");
     }
     println!("{:>9}  positions put into lists that were not crowded, and are not", seen.added);
-    println!("{rounds} rounds, {} calls", seen.calls.values().sum::<u64>());
+    for (count, name) in seen.stalls.lines() {
+        println!("{count:>9}  {name}");
+    }
+    println!("{rounds} rounds, {} calls", seen.calls.values().sum::<u64>() + seen.stalls.calls());
     ExitCode::SUCCESS
 }
 
@@ -52,6 +58,7 @@ struct Seen {
     calls: BTreeMap<String, u64>,
     /// Positions that calls put into lists that were not crowded.
     added: u64,
+    stalls: Tally,
 }
 
 impl Seen {
@@ -85,6 +92,16 @@ fn play_running(seed: u64, seen: &mut Seen) -> Result<(), String> {
             return Err(format!("a list is crowded before {call:?}"));
         }
         make(call, &mut lent, seen)?;
+    }
+    Ok(())
+}
+
+/// A round's machines in a stall. As with takes, their random numbers are others.
+fn play_stalled(seed: u64, seen: &mut Seen) -> Result<(), String> {
+    let mut random = Random::new(seed.swap_bytes());
+    for _ in 0..STALLED {
+        let most_visits = random.between(1, VISITS);
+        stalled::play(&mut random, most_visits, &mut seen.stalls)?;
     }
     Ok(())
 }
