@@ -1,5 +1,5 @@
-//! Sequences written by hand, for what generated ones hardly reach: the two words of an unsolicited response, and a restore where two clocks
-//! are less than a tick apart.
+//! Sequences written by hand, for what generated ones hardly reach: the two words of an unsolicited response, a restore where two clocks
+//! are less than a tick apart, and a stall from its longest to its end (request T-10).
 use crate::device::Reference;
 use crate::ops::{Op, execute};
 use crate::side::Side;
@@ -21,9 +21,19 @@ const OTHERS_CONTROL: u8 = 0x99;
 /// Nanoseconds after which a clock has 24,000 ticks, the same and a larger remainder, and one tick more with the smallest remainder.
 const MOMENTS: [u64; 3] = [1_000_003, 1_000_013, 1_000_042];
 
+/// Frames that each pull after a stall asks for, and how many pulls there are: as many as it takes.
+const STALLS: [(usize, usize); 2] = [(256, 32), (255, 33)];
+/// The pull before which guest memory is rewritten, and the pulls between two changes of the downstream count, each to the next of these.
+const REWRITING_PULL: usize = 10;
+const DOWNSTREAM_PULLS: usize = 4;
+const DOWNSTREAM: [u32; 3] = [0, 14_336, 400];
+/// Addresses, lengths and flags of the descriptors, which a rewriting exchanges for the others. The lengths stay, since the stream stands inside of one.
+const DESCRIPTORS: [[(u64, u32, u32); 3]; 2] =
+    [[(0x400, 1020, 1), (0x800, 900, 0), (0xc00, 8, 1)], [(0xa04, 1020, 0), (0x104, 900, 1), (0x600, 8, 1)]];
+
 /// The sequences; none of their calls meets a difference.
-pub fn all() -> [Vec<Op>; 2] {
-    [unsolicited(), clocks()]
+pub fn all() -> [Vec<Op>; 3] {
+    [unsolicited(), clocks(), stalls()]
 }
 
 /// Pin changes while unsolicited responses are on and off, at the pin, at the controller, and for want of DMA or of the response ring.
@@ -101,6 +111,59 @@ fn saved(nanoseconds: u64) -> Vec<u8> {
     device.save().1
 }
 
+/// A playback stream whose host is away for two seconds, so that its queue is full and 8,192 frames are deferred, and then pulls until none is, while no time
+/// passes; once for each of the pulls' lengths.
+fn stalls() -> Vec<Op> {
+    let mut ops = playing();
+    for (stall, (frames, pulls)) in STALLS.into_iter().enumerate() {
+        ops.extend([Op::Advance(1_000_000_000), Op::Advance(1_000_000_000)]);
+        for pull in 0..pulls {
+            if pull == REWRITING_PULL {
+                ops.extend(rewritten((stall + 1) % DESCRIPTORS.len()));
+            }
+            if pull.is_multiple_of(DOWNSTREAM_PULLS) {
+                ops.push(Op::Downstream(DOWNSTREAM[pull / DOWNSTREAM_PULLS % DOWNSTREAM.len()]));
+            }
+            ops.extend([Op::Pull(4 * frames), Op::Advance(0)]);
+        }
+    }
+    ops
+}
+
+/// A device that plays noise at 48,000, unity gain, with interrupts on completion.
+fn playing() -> Vec<Op> {
+    let cyclic: u32 = DESCRIPTORS[0].iter().map(|(_, length, _)| length).sum();
+    let mut ops = vec![BEGIN];
+    ops.extend(rewritten(0));
+    ops.extend([bus_master(true), write(0x08, &[1]), write(0x20, &[2, 0, 0, 0xc0])]);
+    // The output converter: stream tag 2, format and gain.
+    ops.extend([0x0027_0620, 0x0022_0011, 0x0023_b04a].map(immediate));
+    ops.extend([
+        write(0xa2, &[0x20]),
+        write(0xa8, &cyclic.to_le_bytes()),
+        write(0xac, &[DESCRIPTORS[0].len() as u8 - 1]),
+        write(0xb2, &[0x11, 0]),
+        write(0xa0, &[6]),
+    ]);
+    ops
+}
+
+/// Other noise in guest memory, with one of the descriptor lists at address 0.
+fn rewritten(list: usize) -> [Op; 2] {
+    let descriptor = |(address, length, flags): (u64, u32, u32)| {
+        [address.to_le_bytes(), (u64::from(flags) << 32 | u64::from(length)).to_le_bytes()].concat()
+    };
+    let data = DESCRIPTORS[list].into_iter().flat_map(descriptor).collect();
+    [Op::Noise(2 + list as u64), Op::Poke { address: 0, data }]
+}
+
+/// A command by the immediate registers.
+fn immediate(command: u32) -> Op {
+    let mut data = command.to_le_bytes().to_vec();
+    data.extend([0, 0, 0, 0, 1]);
+    write(0x60, &data)
+}
+
 fn write(offset: u64, data: &[u8]) -> Op {
     Op::Write { offset, data: data.to_vec() }
 }
@@ -112,6 +175,7 @@ fn bus_master(on: bool) -> Op {
 #[cfg(test)]
 mod tests {
     use super::*;
+    use crate::side::Direction;
     use crate::state::State;
     use port::layout::get;
 
@@ -159,5 +223,16 @@ mod tests {
             steps.windows(2).filter(|pair| matches!(pair[1].0, Op::Restore(_))).map(|pair| (pair[0].1, pair[1].1)).collect();
         let expected: Vec<_> = times.iter().flat_map(|own| times.iter().map(|other| (*own, *own.max(other)))).collect();
         assert_eq!(restores, expected);
+    }
+
+    #[test]
+    fn a_stall_is_over_when_its_pulls_are_made_and_not_before() {
+        let deferred = |device: &Reference| state(device).streams[Direction::Playback.index()].time / 1_000_000_000;
+        let steps = run(stalls(), deferred);
+        let came: Vec<u64> = steps.into_iter().filter(|(op, _)| *op == Op::Advance(0)).map(|(_, deferred)| deferred).collect();
+        let left = |frames: usize, pull: usize| 8192_u64.saturating_sub((frames * pull) as u64);
+        let expected: Vec<u64> = STALLS.iter().flat_map(|(frames, pulls)| (1..=*pulls).map(|pull| left(*frames, pull))).collect();
+        assert_eq!(came, expected);
+        assert_eq!([31, 32, 64, 65].map(|pulls| came[pulls - 1]), [256, 0, 32, 0]);
     }
 }
