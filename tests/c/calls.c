@@ -1,5 +1,6 @@
 /* Calls every function of include/hda.h from C and checks a few answers: frames played and captured, a message sent, openings refused by a write and by time, a state saved and restored, one with a crowded
- * list refused and taken with the list emptied, slices of length 0 at NULL, the rate of every format word, frames written as a WAV file and read back, its header changed byte by byte. */
+ * list refused and taken with the list emptied, slices of length 0 at NULL, a stall that is caught up, the rate of every format word, frames written as a WAV file and read back, its header changed
+ * byte by byte. */
 #include "hda.h"
 #include <stdio.h>
 #include <string.h>
@@ -245,6 +246,33 @@ static void exchanged(void)
     CHECK(stands(device, 680 + 14, 8), 192);
     CHECK(read_register(0x80, 1) & 2, 0);
     CHECK(read_register(0x83, 1) & 0x10, 0x10);
+}
+
+/* Whole frames of a stream that are due and were not moved. */
+static uint64_t deferred(unsigned stream)
+{
+    return stands(device, 680 + 34 * stream + 22, 8) / 1000000000;
+}
+
+/* Nobody pulls for two seconds: the queue is full, and as many frames are deferred as can be. Then 32 pulls of 256 frames, with no time between them, are what it takes. */
+static void stalled(void)
+{
+    const unsigned stream = 1, pulls = 32;
+    uint8_t on[1] = {6}, frames[1024];
+    CHECK(hda_new(device, sizeof device, lists, sizeof lists, queues, sizeof queues, 1), HDA_DONE);
+    CHECK(hda_host_new(HOST), HDA_DONE);
+    CHECK(hda_number(hda_config_write(RECORDS, MEMORY, 1, 0, on, 1)), HDA_DONE);
+    write_register(0x08, 1, 1);
+    start(stream, 0x500, 0x1000);
+    CHECK(hda_number(hda_advance(RECORDS, MEMORY, 1000000000)), HDA_DONE);
+    CHECK(hda_number(hda_advance(RECORDS, MEMORY, 1000000000)), HDA_DONE);
+    CHECK(deferred(stream), 8192);
+    for (unsigned pull = 1; pull <= pulls; pull++) {
+        CHECK(hda_value(hda_pull(HOST, frames, sizeof frames)), 256);
+        CHECK(hda_number(hda_advance(RECORDS, MEMORY, 0)), HDA_DONE);
+        CHECK(deferred(stream), 256 * (pulls - pull));
+        CHECK(stands(device, 680 + 34 * stream + 6, 8), 2048 + 1024 * pull);
+    }
 }
 
 /* The rate of a format word, from the list of those that the device accepts. */
@@ -499,6 +527,7 @@ int main(void)
     restored();
     empty();
     exchanged();
+    stalled();
     rates();
     crowded();
     wav_written();
