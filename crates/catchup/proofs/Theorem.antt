@@ -19,6 +19,7 @@ use Rattle.device.specs.Machines.{Machine}
 use Rattle.calls.specs.Calls.{after}
 use Rattle.book.specs.Lists.{run}
 use Rattle.catchup.specs.Callbacks.{Callback, stepsOf, beforePull, beforeAdvance, leftBy, deferredOf, submittedOf, Runs, Running, Asks, Serves, Throughout, GoesOn, AllGoOn, Sized}
+use Rattle.catchup.specs.Claim.{leastPull, mostCallbacks}
 use Rattle.catchup.specs.Corollaries.{takenBy, callbacksFor, Exactly, Full}
 use Rattle.catchup.proofs.Advance.{Stays, advance-stays, advance-time}
 use Rattle.catchup.proofs.Callbacks.{callback-late, callback-moved, Exact, callback-exact}
@@ -92,8 +93,8 @@ module _ (i : ℕ) (own : i < streams) (plays : captures i ≡ false) where
       le-trans (all-late frames cs (leftBy c x) (left-stays c x sized .sized) (t .1))
       (fewer (takenBy frames) (deferredOf i x) (deferredOf i (leftBy c x)) (length cs) (late frames c x sized (t .0)))
 
-  pub each : (cs : List Callback) (x : Machine) → Sized (x .hda) → Throughout i 256 cs x → deferredOf i (run (stepsOf cs) x) ≤ deferredOf i x - 256 * length cs
-  each = all-late 256
+  pub each : (cs : List Callback) (x : Machine) → Sized (x .hda) → Throughout i leastPull cs x → deferredOf i (run (stepsOf cs) x) ≤ deferredOf i x - leastPull * length cs
+  each = all-late leastPull
 
   -- a machine that an accepted call finds has at most 8,192 whole frames deferred
   most : (frames : ℕ) (c : Callback) (x : Machine) → Serves i frames c x → deferredOf i x ≤ 8192
@@ -103,11 +104,11 @@ module _ (i : ℕ) (own : i < streams) (plays : captures i ≡ false) where
       few : (f : ℕ) → f < 8193 * billion → f / billion ≤ 8192
       few f h = omega arith
 
-  pub over : (cs : List Callback) (x : Machine) → Sized (x .hda) → Throughout i 256 cs x → 32 ≤ length cs → deferredOf i (run (stepsOf cs) x) ≡ 0
+  pub over : (cs : List Callback) (x : Machine) → Sized (x .hda) → Throughout i leastPull cs x → mostCallbacks ≤ length cs → deferredOf i (run (stepsOf cs) x) ≡ 0
   over [] x sized t enough = absurd (omega arith)
-  over (c ∷ cs) x sized t enough = none (deferredOf i x) (deferredOf i (run (stepsOf (c ∷ cs)) x)) (length (c ∷ cs)) (most 256 c x (t .0)) enough (each (c ∷ cs) x sized t)
+  over (c ∷ cs) x sized t enough = none (deferredOf i x) (deferredOf i (run (stepsOf (c ∷ cs)) x)) (length (c ∷ cs)) (most leastPull c x (t .0)) enough (each (c ∷ cs) x sized t)
     where
-      none : (due left n : ℕ) → due ≤ 8192 → 32 ≤ n → left ≤ due - 256 * n → left ≡ 0
+      none : (due left n : ℕ) → due ≤ 8192 → mostCallbacks ≤ n → left ≤ due - leastPull * n → left ≡ 0
       none due left n h k l = omega arith
 
   -- ---- none is dropped

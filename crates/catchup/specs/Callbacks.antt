@@ -82,12 +82,15 @@ pub record Asks (i frames : ℕ) (c : Callback) (x : Machine) : Type 0 where
   pub taken : let p = beforePull c x in pullOf (p .host) (p .queues) (c .into) .fed .number ≡ 0
   pub untouched : queueAt (c .advancing .host) i ≡ queueAt (afterPull c x .host) i
 
--- and of the callback: its `advance` finds the stream running, and is refused neither for what it is handed nor since a stream's opening failed. Of other failures nothing is asked: a stream that fails keeps no
--- whole frame, and no longer runs.
+-- its `advance` is refused neither for what it is handed nor since a stream's opening failed
+abbrev pub Answered : Callback → Machine → Type 0
+Answered c x = advanceOf 0 (beforeAdvance c x) .answer .number ≡ 0
+
+-- What is asked of a callback: its `advance` finds the stream running. Of other failures nothing is asked: a stream that fails keeps no whole frame, and no longer runs.
 pub record Serves (i frames : ℕ) (c : Callback) (x : Machine) : Type 0 where
   pub asks : Asks i frames c x
   pub running : Running i (beforeAdvance c x .hda)
-  pub answered : advanceOf 0 (beforeAdvance c x) .answer .number ≡ 0
+  pub answered : Answered c x
 
 -- "throughout": at each callback of a list
 abbrev pub Throughout : ℕ → ℕ → List Callback → Machine → Type 0
@@ -97,7 +100,7 @@ Throughout i frames (c ∷ cs) x = Serves i frames c x × Throughout i frames cs
 -- The same from what each callback leaves: no call is refused, and the stream runs after it, so that no failure has stopped it.
 pub record GoesOn (i frames : ℕ) (c : Callback) (x : Machine) : Type 0 where
   pub asks : Asks i frames c x
-  pub answered : advanceOf 0 (beforeAdvance c x) .answer .number ≡ 0
+  pub answered : Answered c x
   pub runs : Runs i (leftBy c x .hda)
 
 abbrev pub AllGoOn : ℕ → ℕ → List Callback → Machine → Type 0

@@ -9,12 +9,19 @@ use Rattle.device.specs.Machines.{Machine}
 use Rattle.book.specs.Lists.{run}
 use Rattle.catchup.specs.Callbacks.{Callback, stepsOf, deferredOf, submittedOf, Runs, Running, Throughout, AllGoOn, Sized}
 
+-- frames that a pull asks for at least, and callbacks that are then enough
+abbrev pub leastPull : ℕ
+leastPull = 256
+
+abbrev pub mostCallbacks : ℕ
+mostCallbacks = 32
+
 -- says it of playback stream i
 pub record CatchesUp (i : ℕ) : Type 0 where
-  -- every callback takes 256 frames, while there are any
-  pub each : (cs : List Callback) (x : Machine) → Sized (x .hda) → Throughout i 256 cs x → deferredOf i (run (stepsOf cs) x) ≤ deferredOf i x - 256 * length cs
-  -- so 32 empty them
-  pub over : (cs : List Callback) (x : Machine) → Sized (x .hda) → Throughout i 256 cs x → 32 ≤ length cs → deferredOf i (run (stepsOf cs) x) ≡ 0
+  -- every callback takes as many frames, while there are any
+  pub each : (cs : List Callback) (x : Machine) → Sized (x .hda) → Throughout i leastPull cs x → deferredOf i (run (stepsOf cs) x) ≤ deferredOf i x - leastPull * length cs
+  -- so enough of them empty the stream
+  pub over : (cs : List Callback) (x : Machine) → Sized (x .hda) → Throughout i leastPull cs x → mostCallbacks ≤ length cs → deferredOf i (run (stepsOf cs) x) ≡ 0
   -- and where no failure has stopped the stream, each frame that is no longer deferred was moved: none is dropped, however many are pulled
   pub moved : (frames : ℕ) (cs : List Callback) (x : Machine) → Sized (x .hda) → Throughout i frames cs x
       → let y = run (stepsOf cs) x in

@@ -1,5 +1,5 @@
 -- Lists of callbacks on bytes, from those on machines. Assumes nothing.
-use Prim.Native.Nat.{ℕ, suc, _+_, _-_, _*_, _/_, _%_, _≤_, _<_}
+use Prim.Native.Nat.{ℕ, suc, _+_, _-_, _*_, _/_, _≤_, _<_}
 use mathlib.Core.Path.{_≡_, refl, sym, ap, subst, _∙_}
 use mathlib.Core.Bool.{true, false}
 use mathlib.Core.List.{List, [], _∷_}
@@ -14,16 +14,16 @@ use Rattle.advance.specs.Advance.{advanceOf}
 use Rattle.record.specs.Loads.{deviceAt}
 use Rattle.reply.proofs.Records.{machine-device}
 use Rattle.port_device.specs.Calls.{Lent, machineAt}
-use Rattle.calls.specs.Calls as calls
-use Rattle.lent_calls.specs.Calls.{on, callOf, after}
+use Rattle.lent_calls.specs.Calls.{after}
 use Rattle.book.specs.Lists as lists
 use Rattle.lent_book.specs.Lists.{run}
 use Rattle.lent_book.proofs.Records.{Ready, bytes-ready}
 use Rattle.catchup.specs.Callbacks as machines
+use Rattle.catchup.specs.Claim.{leastPull, mostCallbacks}
 use Rattle.catchup.specs.Corollaries as counts
 use Rattle.catchup.specs.Corollaries.{callbacksFor}
 use Rattle.catchup.proofs.Theorem as theorem
-use Rattle.lent_catchup.specs.Callbacks.{Callback, stepsOf, beforePull, beforeAdvance, leftBy, deferredIn, submittedIn, RunsIn, RunningIn, Asks, Serves, Throughout, GoesOn, AllGoOn}
+use Rattle.lent_catchup.specs.Callbacks.{Callback, stepsOf, beforePull, beforeAdvance, leftBy, deferredIn, submittedIn, RunsIn, RunningIn, Answered, Serves, Throughout, GoesOn, AllGoOn}
 use Rattle.lent_catchup.specs.Corollaries.{Exactly, Full}
 use Rattle.lent_catchup.proofs.Numbers.{advance-number}
 use Rattle.lent_catchup.proofs.Callbacks.{same-deferred, same-submitted, same-queue, ready-sized, onMachine, found, asked, left-machine, left-ready}
@@ -39,7 +39,7 @@ length-on (c ∷ cs) = ap suc (length-on cs)
 
 module _ (i : ℕ) (own : i < streams) where
   -- an `advance` that is answered found a record
-  answered-ready : (c : Callback) (x : Lent) → Bytes (x .device) → callOf (on (calls.advance 0)) (beforeAdvance c x) .reply % 256 ≡ 0 → Ready (x .device)
+  answered-ready : (c : Callback) (x : Lent) → Bytes (x .device) → Answered c x → Ready (x .device)
   unfolding after
   answered-ready c x bytes answered =
       let y = beforeAdvance c x in
@@ -125,15 +125,15 @@ module _ (i : ℕ) (own : i < streams) where
     all-late frames [] x bytes t = omega arith
     all-late frames (c ∷ cs) x bytes t = late plays frames (c ∷ cs) x (answered-ready c x bytes (t .0 .answered)) t
 
-    pub each : (cs : List Callback) (x : Lent) → Bytes (x .device) → Throughout i 256 cs x → deferredIn i (run (stepsOf cs) x) ≤ deferredIn i x - 256 * length cs
-    each = all-late 256
+    pub each : (cs : List Callback) (x : Lent) → Bytes (x .device) → Throughout i leastPull cs x → deferredIn i (run (stepsOf cs) x) ≤ deferredIn i x - leastPull * length cs
+    each = all-late leastPull
 
-    pub over : (cs : List Callback) (x : Lent) → Bytes (x .device) → Throughout i 256 cs x → 32 ≤ length cs → deferredIn i (run (stepsOf cs) x) ≡ 0
+    pub over : (cs : List Callback) (x : Lent) → Bytes (x .device) → Throughout i leastPull cs x → mostCallbacks ≤ length cs → deferredIn i (run (stepsOf cs) x) ≡ 0
     over [] x bytes t enough = absurd (omega arith)
     over (c ∷ cs) x bytes t enough =
         let r = answered-ready c x bytes (t .0 .answered) in
-        left-deferred plays 256 (c ∷ cs) x r t
-        ∙ theorem.over i own plays (allOn (c ∷ cs)) (machineAt x) (ready-sized (x .device) r) (all-serve 256 (c ∷ cs) x r t) (rw (length-on (c ∷ cs)) enough)
+        left-deferred plays leastPull (c ∷ cs) x r t
+        ∙ theorem.over i own plays (allOn (c ∷ cs)) (machineAt x) (ready-sized (x .device) r) (all-serve leastPull (c ∷ cs) x r t) (rw (length-on (c ∷ cs)) enough)
 
     pub moved : (frames : ℕ) (cs : List Callback) (x : Lent) → Bytes (x .device) → Throughout i frames cs x
         → let y = run (stepsOf cs) x in

@@ -1,5 +1,5 @@
 -- A host that catches up (request T-10), on the bytes that it lends: in each callback it calls hda_pull, and then hda_advance by 0 ns. What must hold at each, and what is counted, read off the bytes.
-use Prim.Native.Nat.{ℕ, _*_, _%_, _≤_}
+use Prim.Native.Nat.{ℕ, _+_, _*_, _%_, _≤_}
 use mathlib.Core.Path.{_≡_}
 use mathlib.Core.List.{List, [], _∷_}
 use lib.ListN.{length}
@@ -80,11 +80,15 @@ pub record Asks (i frames : ℕ) (c : Callback) (x : Lent) : Type 0 where
   pub taken : callOf (on (calls.pull (c .into))) (beforePull c x) .kept .reply % 256 ≡ 0
   pub untouched : queueIn i (beforeAdvance c x) ≡ queueIn i (afterPull c x)
 
--- and of the callback: its `advance` finds the stream running, and returns the number 0
+-- its `advance` returns the number 0
+abbrev pub Answered : Callback → Lent → Type 0
+Answered c x = callOf (on (calls.advance 0)) (beforeAdvance c x) .reply % 256 ≡ 0
+
+-- what is asked of a callback: its `advance` finds the stream running
 pub record Serves (i frames : ℕ) (c : Callback) (x : Lent) : Type 0 where
   pub asks : Asks i frames c x
   pub running : RunningIn i (beforeAdvance c x)
-  pub answered : callOf (on (calls.advance 0)) (beforeAdvance c x) .reply % 256 ≡ 0
+  pub answered : Answered c x
 
 -- "throughout": at each callback of a list
 abbrev pub Throughout : ℕ → ℕ → List Callback → Lent → Type 0
@@ -94,7 +98,7 @@ Throughout i frames (c ∷ cs) x = Serves i frames c x × Throughout i frames cs
 -- The same from what each callback leaves: both calls return 0, and the stream runs after them.
 pub record GoesOn (i frames : ℕ) (c : Callback) (x : Lent) : Type 0 where
   pub asks : Asks i frames c x
-  pub answered : callOf (on (calls.advance 0)) (beforeAdvance c x) .reply % 256 ≡ 0
+  pub answered : Answered c x
   pub runs : RunsIn i (leftBy c x)
 
 abbrev pub AllGoOn : ℕ → ℕ → List Callback → Lent → Type 0

@@ -8,14 +8,15 @@ use Rattle.word.specs.Value.{Bytes}
 use Rattle.stream.specs.Box.{streams, captures}
 use Rattle.port_device.specs.Calls.{Lent}
 use Rattle.lent_book.specs.Lists.{run}
+use Rattle.catchup.specs.Claim.{leastPull, mostCallbacks}
 use Rattle.lent_catchup.specs.Callbacks.{Callback, stepsOf, deferredIn, submittedIn, RunsIn, RunningIn, Throughout, AllGoOn}
 
 -- says it of playback stream i
 pub record CatchesUp (i : ℕ) : Type 0 where
-  -- every callback takes 256 frames, while there are any
-  pub each : (cs : List Callback) (x : Lent) → Bytes (x .device) → Throughout i 256 cs x → deferredIn i (run (stepsOf cs) x) ≤ deferredIn i x - 256 * length cs
-  -- so 32 empty them
-  pub over : (cs : List Callback) (x : Lent) → Bytes (x .device) → Throughout i 256 cs x → 32 ≤ length cs → deferredIn i (run (stepsOf cs) x) ≡ 0
+  -- every callback takes as many frames, while there are any
+  pub each : (cs : List Callback) (x : Lent) → Bytes (x .device) → Throughout i leastPull cs x → deferredIn i (run (stepsOf cs) x) ≤ deferredIn i x - leastPull * length cs
+  -- so enough of them empty the stream
+  pub over : (cs : List Callback) (x : Lent) → Bytes (x .device) → Throughout i leastPull cs x → mostCallbacks ≤ length cs → deferredIn i (run (stepsOf cs) x) ≡ 0
   -- and where no failure has stopped the stream, each frame that is no longer deferred was moved: none is dropped, however many are pulled
   pub moved : (frames : ℕ) (cs : List Callback) (x : Lent) → Bytes (x .device) → Throughout i frames cs x
       → let y = run (stepsOf cs) x in
