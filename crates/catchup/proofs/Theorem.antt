@@ -17,12 +17,14 @@ use Rattle.registers.specs.Places.{dmaOf}
 use Rattle.device.specs.Devices.{streamAt}
 use Rattle.device.specs.Machines.{Machine}
 use Rattle.calls.specs.Calls.{after}
-use Rattle.book.specs.Lists.{run}
+use Rattle.book.specs.Lists.{handed, run}
 use Rattle.catchup.specs.Callbacks.{Callback, stepsOf, beforePull, beforeAdvance, leftBy, deferredOf, submittedOf, Runs, Running, Asks, Serves, Throughout, GoesOn, AllGoOn, Sized}
 use Rattle.catchup.specs.Claim.{leastPull, mostCallbacks}
+use Rattle.catchup.specs.Between.{Moment, callback, between, stepsAmong, callbacksIn, Among}
 use Rattle.catchup.specs.Corollaries.{takenBy, callbacksFor, Exactly, Full}
 use Rattle.catchup.proofs.Advance.{Stays, advance-stays, advance-time}
 use Rattle.catchup.proofs.Callbacks.{callback-late, callback-moved, Exact, callback-exact}
+use Rattle.catchup.proofs.Quiet.{quiet}
 
 -- ---- one callback of a list
 module _ (c : Callback) (x : Machine) where
@@ -35,7 +37,21 @@ module _ (c : Callback) (x : Machine) where
   unfolding after
   left-stays sized = advance-stays (beforeAdvance c x) sized
 
--- ---- a quotient rounded up
+-- ---- numbers
+-- m fewer, and then m for each of n
+pub fewer : (m due due′ n : ℕ) → due′ ≤ due - m → due′ - m * n ≤ due - m * suc n
+fewer m due due′ n h = rw (mul-suc m n) (go (m * n))
+  where
+    go : (k : ℕ) → due′ - k ≤ due - (k + m)
+    go k = omega arith
+
+pub less : (due due′ k : ℕ) → due′ ≤ due → due′ - k ≤ due - k
+less due due′ k h = omega arith
+
+-- of the most that are deferred none is left
+pub none-of-most : (due left n : ℕ) → due ≤ 8192 → mostCallbacks ≤ n → left ≤ due - leastPull * n → left ≡ 0
+none-of-most due left n h k l = omega arith
+
 -- n times the divisor are enough where n is no less than it
 rounded-up : (m due n : ℕ) → 0 < m → (due + (m - 1)) / m ≤ n → due ≤ m * n
 rounded-up m due n some h =
@@ -62,7 +78,7 @@ sounds frames deferred some few =
 
 module _ (i : ℕ) (own : i < streams) (plays : captures i ≡ false) where
   module _ (frames : ℕ) (c : Callback) (x : Machine) (sized : Sized (x .hda)) (s : Serves i frames c x) where
-    late : deferredOf i (leftBy c x) ≤ deferredOf i x - takenBy frames
+    pub late : deferredOf i (leftBy c x) ≤ deferredOf i x - takenBy frames
     unfolding after
     late =
         callback-late i own plays (beforePull c x) (c .into) (s .asks .taken) (beforeAdvance c x) (s .asks .untouched) (found-sized c x sized) (c .advancing .sized) (s .running) (s .answered) frames (s .asks .enough)
@@ -80,12 +96,6 @@ module _ (i : ℕ) (own : i < streams) (plays : captures i ≡ false) where
         (e .left, e .full)
 
   -- ---- each takes as many, so that enough take all
-  fewer : (m due due′ n : ℕ) → due′ ≤ due - m → due′ - m * n ≤ due - m * suc n
-  fewer m due due′ n h = rw (mul-suc m n) (go (m * n))
-    where
-      go : (k : ℕ) → due′ - k ≤ due - (k + m)
-      go k = omega arith
-
   pub all-late : (frames : ℕ) (cs : List Callback) (x : Machine) → Sized (x .hda) → Throughout i frames cs x → deferredOf i (run (stepsOf cs) x) ≤ deferredOf i x - takenBy frames * length cs
   unfolding run
   all-late frames [] x sized t = omega arith
@@ -97,7 +107,7 @@ module _ (i : ℕ) (own : i < streams) (plays : captures i ≡ false) where
   each = all-late leastPull
 
   -- a machine that an accepted call finds has at most 8,192 whole frames deferred
-  most : (frames : ℕ) (c : Callback) (x : Machine) → Serves i frames c x → deferredOf i x ≤ 8192
+  pub most : (frames : ℕ) (c : Callback) (x : Machine) → Serves i frames c x → deferredOf i x ≤ 8192
   unfolding after
   most frames c x s = few (streamAt (x .hda) i .fraction) (advance-time i own (beforeAdvance c x) (s .answered))
     where
@@ -106,10 +116,7 @@ module _ (i : ℕ) (own : i < streams) (plays : captures i ≡ false) where
 
   pub over : (cs : List Callback) (x : Machine) → Sized (x .hda) → Throughout i leastPull cs x → mostCallbacks ≤ length cs → deferredOf i (run (stepsOf cs) x) ≡ 0
   over [] x sized t enough = absurd (omega arith)
-  over (c ∷ cs) x sized t enough = none (deferredOf i x) (deferredOf i (run (stepsOf (c ∷ cs)) x)) (length (c ∷ cs)) (most leastPull c x (t .0)) enough (each (c ∷ cs) x sized t)
-    where
-      none : (due left n : ℕ) → due ≤ 8192 → mostCallbacks ≤ n → left ≤ due - leastPull * n → left ≡ 0
-      none due left n h k l = omega arith
+  over (c ∷ cs) x sized t enough = none-of-most (deferredOf i x) (deferredOf i (run (stepsOf (c ∷ cs)) x)) (length (c ∷ cs)) (most leastPull c x (t .0)) enough (each (c ∷ cs) x sized t)
 
   -- ---- none is dropped
   -- a stream that runs at the end ran after each callback
@@ -184,3 +191,20 @@ module _ (i : ℕ) (own : i < streams) (plays : captures i ≡ false) where
         where
           go : (k : ℕ) → due - (k + m) ≡ 0
           go k = omega arith
+
+  -- ---- among other calls
+  pub among : (frames : ℕ) (ms : List Moment) (x : Machine) → Among i frames ms x → deferredOf i (run (stepsAmong ms) x) ≤ deferredOf i x - takenBy frames * callbacksIn ms
+  unfolding run
+  among frames [] x a = omega arith
+  among frames (callback c ∷ ms) x a =
+      le-trans (among frames ms (leftBy c x) (a .2)) (fewer (takenBy frames) (deferredOf i x) (deferredOf i (leftBy c x)) (callbacksIn ms) (late frames c x (a .0) (a .1)))
+  among frames (between s ∷ ms) x a =
+      let y = after (s .call) (handed s x) in
+      le-trans (among frames ms y (a .1)) (less (deferredOf i x) (deferredOf i y) (takenBy frames * callbacksIn ms) (quiet i (s .call) (a .0) (handed s x)))
+
+  -- the first callback among them finds at most 8,192
+  pub over-among : (ms : List Moment) (x : Machine) → Among i leastPull ms x → mostCallbacks ≤ callbacksIn ms → deferredOf i (run (stepsAmong ms) x) ≡ 0
+  unfolding run
+  over-among [] x a enough = absurd (omega arith)
+  over-among (callback c ∷ ms) x a enough = none-of-most (deferredOf i x) _ (callbacksIn (callback c ∷ ms)) (most leastPull c x (a .1)) enough (among leastPull (callback c ∷ ms) x a)
+  over-among (between s ∷ ms) x a enough = over-among ms (after (s .call) (handed s x)) (a .1) enough

@@ -1,4 +1,4 @@
--- In how many callbacks (request T-10): the formula for pulls of any size, and that it is met. A queue holds 512 frames, so that a pull of more takes no more.
+-- In how many callbacks (request T-10): the formula for pulls of any size, that it is met, and that other calls between the callbacks change nothing of it. A queue holds 512 frames, so that a pull of more takes no more.
 use Prim.Native.Nat.{ℕ, _+_, _-_, _*_, _/_, _≤_, _<_, min}
 use mathlib.Core.Path.{_≡_}
 use mathlib.Core.Bool.{true, false}
@@ -10,6 +10,8 @@ use Rattle.host.specs.Hosts.{queueAt}
 use Rattle.device.specs.Machines.{Machine}
 use Rattle.book.specs.Lists.{run}
 use Rattle.catchup.specs.Callbacks.{Callback, stepsOf, leftBy, deferredOf, Runs, Throughout, Sized}
+use Rattle.catchup.specs.Claim.{leastPull, mostCallbacks}
+use Rattle.catchup.specs.Between.{Moment, stepsAmong, callbacksIn, Among}
 
 -- frames that a callback takes which pulls so many
 abbrev pub takenBy : ℕ → ℕ
@@ -37,6 +39,9 @@ pub record Counted (i : ℕ) : Type 0 where
   pub exact : (frames : ℕ) → frames ≤ capacity / 4 → (cs : List Callback) (x : Machine) → Sized (x .hda) → Full i x → Throughout i frames cs x → Exactly i frames cs x
       → let y = run (stepsOf cs) x in
       Runs i (y .hda) → deferredOf i y ≡ deferredOf i x - frames * length cs
+  -- calls between the callbacks hold nothing up: each callback takes as many as without them, and enough of them empty the stream
+  pub among : (frames : ℕ) (ms : List Moment) (x : Machine) → Among i frames ms x → deferredOf i (run (stepsAmong ms) x) ≤ deferredOf i x - takenBy frames * callbacksIn ms
+  pub over : (ms : List Moment) (x : Machine) → Among i leastPull ms x → mostCallbacks ≤ callbacksIn ms → deferredOf i (run (stepsAmong ms) x) ≡ 0
 
 -- The sound that the host asks for until then: the deferred frames, and less than one pull more; at r frames a second so many r-ths of a second.
 pub record Corollaries : Type 0 where

@@ -1,4 +1,5 @@
--- What a number 0 says, a callback on bytes, and lists of them.
+-- What a number 0 says, a callback on bytes, lists of them, and other calls between.
 pub mod Numbers
 pub mod Callbacks
 pub mod Theorem
+pub mod Between

@@ -50,7 +50,7 @@ module _ (i : ℕ) (own : i < streams) where
     one-machine : machineAt (leftBy c x) ≡ machines.leftBy (onMachine c) (machineAt x)
     one-machine = left-machine i frames own c x r (s .asks) (advance-number 0 (beforeAdvance c x) (s .answered))
 
-    one-ready : Ready (leftBy c x .device)
+    pub one-ready : Ready (leftBy c x .device)
     one-ready = left-ready i frames own c x r (s .asks) (advance-number 0 (beforeAdvance c x) (s .answered))
 
     one-serves : machines.Serves i frames (onMachine c) (machineAt x)
@@ -61,6 +61,14 @@ module _ (i : ℕ) (own : i < streams) where
           running = subst (λ (y : Machine). machines.Running i (y .hda)) same (s .running);
           answered = subst (λ (y : Machine). advanceOf 0 y .answer .number ≡ 0) same (advance-number 0 (beforeAdvance c x) (s .answered) .1);
         }
+
+    pub one-late : captures i ≡ false → deferredIn i (leftBy c x) ≤ deferredIn i x - counts.takenBy frames
+    one-late plays =
+        rw (same-deferred i own (leftBy c x) ∙ ap (machines.deferredOf i) one-machine, same-deferred i own x)
+        (theorem.late i own plays frames (onMachine c) (machineAt x) (ready-sized (x .device) r) one-serves)
+
+    pub one-most : captures i ≡ false → deferredIn i x ≤ 8192
+    one-most plays = rw (same-deferred i own x) (theorem.most i own plays frames (onMachine c) (machineAt x) one-serves)
 
   same-run : (frames : ℕ) (cs : List Callback) (x : Lent) → Ready (x .device) → Throughout i frames cs x → machineAt (run (stepsOf cs) x) ≡ lists.run (machines.stepsOf (allOn cs)) (machineAt x)
   unfolding run lists.run

@@ -1,4 +1,4 @@
--- In how many callbacks (request T-10), on bytes: the formula for pulls of any size, and that it is met.
+-- In how many callbacks (request T-10), on bytes: the formula for pulls of any size, that it is met, and that other calls between the callbacks change nothing of it.
 use Prim.Native.Nat.{ℕ, _-_, _*_, _/_, _≤_, _<_}
 use mathlib.Core.Path.{_≡_}
 use mathlib.Core.Bool.{true, false}
@@ -7,10 +7,13 @@ use lib.ListN.{length}
 use Rattle.word.specs.Value.{Bytes}
 use Rattle.stream.specs.Box.{streams, captures}
 use Rattle.queue.specs.Queues.{capacity, queue}
+use Rattle.record.specs.Loads.{isDevice}
 use Rattle.port_device.specs.Calls.{Lent}
 use Rattle.lent_book.specs.Lists.{run}
-use Rattle.catchup.specs.Corollaries.{callbacksFor}
+use Rattle.catchup.specs.Claim.{leastPull, mostCallbacks}
+use Rattle.catchup.specs.Corollaries.{takenBy, callbacksFor}
 use Rattle.lent_catchup.specs.Callbacks.{Callback, stepsOf, beforePull, leftBy, deferredIn, queueIn, RunsIn, Throughout}
+use Rattle.lent_catchup.specs.Between.{Moment, stepsAmong, callbacksIn, Among}
 
 -- each pull wants exactly so many frames, and finds the stream's queue as it was left
 abbrev pub Exactly : ℕ → ℕ → List Callback → Lent → Type 0
@@ -30,6 +33,10 @@ pub record Counted (i : ℕ) : Type 0 where
   pub exact : (frames : ℕ) → frames ≤ capacity / 4 → (cs : List Callback) (x : Lent) → Bytes (x .device) → Full i x → Throughout i frames cs x → Exactly i frames cs x
       → let y = run (stepsOf cs) x in
       RunsIn i y → deferredIn i y ≡ deferredIn i x - frames * length cs
+  -- calls between the callbacks hold nothing up, from a device's record on: each callback takes as many as without them, and enough of them empty the stream
+  pub among : (frames : ℕ) (ms : List Moment) (x : Lent) → isDevice (x .device) ≡ true → Bytes (x .device) → Among i frames ms x
+      → deferredIn i (run (stepsAmong ms) x) ≤ deferredIn i x - takenBy frames * callbacksIn ms
+  pub over : (ms : List Moment) (x : Lent) → isDevice (x .device) ≡ true → Bytes (x .device) → Among i leastPull ms x → mostCallbacks ≤ callbacksIn ms → deferredIn i (run (stepsAmong ms) x) ≡ 0
 
 pub record CorollariesBytes : Type 0 where
   pub counted : (i : ℕ) → i < streams → captures i ≡ false → Counted i

@@ -12,7 +12,7 @@ pub const PLAYBACK: Range<usize> = STREAMS / 2..STREAMS;
 pub const LEAST_PULL: u64 = 256;
 /// Frames that a queue holds.
 pub const QUEUE_FRAMES: u64 = QUEUE as u64 / 4;
-/// Visits after which nothing is deferred, whatever the state was.
+/// Callbacks after which nothing is deferred, whatever the state was.
 pub const ENOUGH: u64 = 32;
 /// A frame in a stream's time.
 pub const FRAME: u64 = 1_000_000_000;
@@ -46,8 +46,8 @@ fn is_served(record: &[u8], index: usize) -> bool {
         && sync >> index & 1 == 0
 }
 
-/// A visit of the host: a pull, and an `advance` by 0 ns behind it, as the caller of both sees them.
-pub struct Visit<'a> {
+/// A callback of the host: a pull, and an `advance` by 0 ns behind it, as the caller of both sees them.
+pub struct Callback<'a> {
     /// Frames that the pull asked for.
     pub asked: u64,
     /// What the two calls returned.
@@ -83,10 +83,10 @@ pub struct Watch {
     /// Deferred frames at that moment, and [`owed`].
     deferred: u64,
     owed: u128,
-    /// Visits so far, and frames by which they bring the deferred ones down at least.
-    visits: u64,
+    /// Callbacks so far, and frames by which they bring the deferred ones down at least.
+    callbacks: u64,
     least: u64,
-    /// Visits until nothing was deferred.
+    /// Callbacks until nothing was deferred.
     needed: u64,
     outcome: Outcome,
     is_claimed: bool,
@@ -95,7 +95,7 @@ pub struct Watch {
 impl Watch {
     pub fn new(record: &[u8], index: usize) -> Self {
         let (deferred, owed) = (deferred(record, index), owed(record, index));
-        Self { index, deferred, owed, visits: 0, least: 0, needed: 0, outcome: Outcome::Late, is_claimed: true }
+        Self { index, deferred, owed, callbacks: 0, least: 0, needed: 0, outcome: Outcome::Late, is_claimed: true }
     }
 
     /// Every playback stream.
@@ -107,46 +107,46 @@ impl Watch {
         self.outcome
     }
 
-    /// Judges what a visit left.
-    pub fn judge(&mut self, visit: &Visit) -> Result<(), String> {
+    /// Judges what a callback left.
+    pub fn judge(&mut self, callback: &Callback) -> Result<(), String> {
         if !self.is_claimed {
             return Ok(());
         }
-        let stopped = is_run_set(visit.found, self.index) && !is_run_set(visit.left, self.index);
-        if stopped && deferred(visit.left, self.index) != 0 {
+        let stopped = is_run_set(callback.found, self.index) && !is_run_set(callback.left, self.index);
+        if stopped && deferred(callback.left, self.index) != 0 {
             return Err(format!("stream {} stopped, and has frames deferred", self.index));
         }
-        if visit.numbers != [number::DONE; 2] {
+        if callback.numbers != [number::DONE; 2] {
             self.end(Outcome::Refused);
-        } else if visit.asked < LEAST_PULL || !is_served(visit.found, self.index) {
+        } else if callback.asked < LEAST_PULL || !is_served(callback.found, self.index) {
             self.end(Outcome::Unclaimed);
         } else {
-            self.judge_frames(visit, stopped)?;
+            self.judge_frames(callback, stopped)?;
         }
         Ok(())
     }
 
     /// The same where all that the request asks held.
-    fn judge_frames(&mut self, visit: &Visit, stopped: bool) -> Result<(), String> {
-        self.visits += 1;
-        self.least += visit.asked.min(QUEUE_FRAMES);
-        let (left, allowed) = (deferred(visit.left, self.index), self.deferred.saturating_sub(self.least));
-        let of_visit = format!("stream {} after {} visits", self.index, self.visits);
+    fn judge_frames(&mut self, callback: &Callback, stopped: bool) -> Result<(), String> {
+        self.callbacks += 1;
+        self.least += callback.asked.min(QUEUE_FRAMES);
+        let (left, allowed) = (deferred(callback.left, self.index), self.deferred.saturating_sub(self.least));
+        let of_callback = format!("stream {} after {} callbacks", self.index, self.callbacks);
         if left > allowed {
-            return Err(format!("{of_visit}: {left} frames are deferred, and {allowed} may be"));
+            return Err(format!("{of_callback}: {left} frames are deferred, and {allowed} may be"));
         }
-        if left != 0 && self.visits >= ENOUGH {
-            return Err(format!("{of_visit}: {left} frames are deferred"));
+        if left != 0 && self.callbacks >= ENOUGH {
+            return Err(format!("{of_callback}: {left} frames are deferred"));
         }
         if stopped {
             self.end(Outcome::Failed);
             return Ok(());
         }
-        if owed(visit.left, self.index) != self.owed {
-            return Err(format!("{of_visit}: submitted and deferred are {}, not {}", owed(visit.left, self.index), self.owed));
+        if owed(callback.left, self.index) != self.owed {
+            return Err(format!("{of_callback}: submitted and deferred are {}, not {}", owed(callback.left, self.index), self.owed));
         }
         if left == 0 && self.outcome == Outcome::Late {
-            (self.outcome, self.needed) = (Outcome::CaughtUp, self.visits);
+            (self.outcome, self.needed) = (Outcome::CaughtUp, self.callbacks);
         }
         Ok(())
     }
@@ -161,27 +161,27 @@ impl Watch {
 }
 
 /// The host pulls into so many bytes, then `advance` by 0 ns. All that the request says of the watched streams is judged.
-pub fn visit(lent: &mut Lent, bytes: usize, watches: &mut [Watch]) -> Result<(), String> {
+pub fn call_back(lent: &mut Lent, bytes: usize, watches: &mut [Watch]) -> Result<(), String> {
     lent.buffer = vec![0; bytes];
     let pulled = Call::Pull.make(lent).number();
     let found = lent.device.clone();
     let advanced = Call::Advance(0).make(lent).number();
-    let visit = Visit { asked: bytes as u64 / 4, numbers: [pulled, advanced], found: &found, left: &lent.device };
-    watches.iter_mut().try_for_each(|watch| watch.judge(&visit))
+    let callback = Callback { asked: bytes as u64 / 4, numbers: [pulled, advanced], found: &found, left: &lent.device };
+    watches.iter_mut().try_for_each(|watch| watch.judge(&callback))
 }
 
 /// What became of many stalls.
 #[derive(Default)]
 pub struct Tally {
     outcomes: BTreeMap<Outcome, u64>,
-    visits: u64,
+    callbacks: u64,
     most_needed: u64,
 }
 
 impl Tally {
-    /// Counts the stalls of a machine that was visited so many times.
-    pub fn count(&mut self, watches: &[Watch], visits: u64) {
-        self.visits += visits;
+    /// Counts the stalls of a machine that was called back so many times.
+    pub fn count(&mut self, watches: &[Watch], callbacks: u64) {
+        self.callbacks += callbacks;
         for watch in watches {
             *self.outcomes.entry(watch.outcome).or_default() += 1;
             self.most_needed = self.most_needed.max(watch.needed);
@@ -192,12 +192,12 @@ impl Tally {
         self.outcomes.get(&outcome).copied().unwrap_or_default()
     }
 
-    /// Calls that were made: two a visit.
+    /// Calls that were made: two a callback.
     pub fn calls(&self) -> u64 {
-        2 * self.visits
+        2 * self.callbacks
     }
 
-    /// The most visits that a stream needed to catch up.
+    /// The most callbacks that a stream needed to catch up.
     pub fn most_needed(&self) -> u64 {
         self.most_needed
     }
@@ -206,8 +206,8 @@ impl Tally {
     pub fn lines(&self) -> [(u64, String); 5] {
         Outcome::EACH.map(|outcome| {
             let name = match outcome {
-                Outcome::Late => "stalls were not over at the last visit".into(),
-                Outcome::CaughtUp => format!("stalls were over, after {} visits at most", self.most_needed),
+                Outcome::Late => "stalls were not over at the last callback".into(),
+                Outcome::CaughtUp => format!("stalls were over, after {} callbacks at most", self.most_needed),
                 Outcome::Failed => "stalls ended as the stream failed".into(),
                 Outcome::Refused => "stalls met a call that was refused".into(),
                 Outcome::Unclaimed => "stalls met another condition that did not hold".into(),

@@ -17,12 +17,12 @@ use random::Random;
 use std::collections::BTreeMap;
 use std::process::ExitCode;
 
-/// Calls of a round on a machine, on one that runs, and on takes; its machines in a stall, and the most visits of the host of each.
+/// Calls of a round on a machine, on one that runs, and on takes; its machines in a stall, and the most callbacks of the host of each.
 const CALLS: usize = 40;
 const RUNNING: usize = 20;
 const TAKES: usize = 20;
 const STALLED: usize = 2;
-const VISITS: u64 = 40;
+const CALLBACKS: u64 = 40;
 
 fn main() -> ExitCode {
     let words: Vec<Option<u64>> = std::env::args().skip(1).map(|word| word.parse().ok()).collect();
@@ -100,8 +100,8 @@ fn play_running(seed: u64, seen: &mut Seen) -> Result<(), String> {
 fn play_stalled(seed: u64, seen: &mut Seen) -> Result<(), String> {
     let mut random = Random::new(seed.swap_bytes());
     for _ in 0..STALLED {
-        let most_visits = random.between(1, VISITS);
-        stalled::play(&mut random, most_visits, &mut seen.stalls)?;
+        let most_callbacks = random.between(1, CALLBACKS);
+        stalled::play(&mut random, most_callbacks, &mut seen.stalls)?;
     }
     Ok(())
 }

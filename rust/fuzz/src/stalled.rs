@@ -1,6 +1,6 @@
 //! Machines in a stall, made at random, as one who lends the bytes may hand them in: any queues, open and closed, lists, offsets and counts, any of the streams running, most of them late
-//! and behind a full queue. Then their hosts come back, while guest memory and the host's settings change as they like.
-use crate::any::Lent;
+//! and behind a full queue. Then their hosts come back, while guest memory and the host's settings change as they like, and guests go on running.
+use crate::any::{Call, Lent};
 use crate::catchup::{self, FRAME, LEAST_PULL, Outcome, PLAYBACK, Tally, Watch};
 use crate::states::FORMATS;
 use port::Machine;
@@ -20,19 +20,22 @@ const MEMORY: u64 = CUT_POSITION_BUFFER + 12;
 /// From here on a stream's time is refused.
 const TIME_LIMIT: u64 = 8193 * FRAME;
 
-/// A machine, and up to so many visits of its host; where its stalls are over, only a few more. All that request T-10 says is judged.
-pub fn play(random: &mut Random, most_visits: u64, tally: &mut Tally) -> Result<(), String> {
+/// A machine, and up to so many callbacks of its host; where its stalls are over, only a few more. All that request T-10 says is judged.
+pub fn play(random: &mut Random, most_callbacks: u64, tally: &mut Tally) -> Result<(), String> {
     let mut lent = start(random);
     let mut watches = Watch::each(&lent.device);
     let habits = Habits { breaks: random.percent(15), asks_for_more: random.percent(40) };
-    let mut visits = 0;
-    while visits < most_visits && (is_any_late(&watches) || random.percent(70)) {
+    let mut callbacks = 0;
+    while callbacks < most_callbacks && (is_any_late(&watches) || random.percent(70)) {
         change(random, &mut lent);
+        if !habits.breaks && random.percent(30) {
+            go_on(random, &mut lent);
+        }
         let bytes = if habits.breaks && random.percent(10) { break_condition(random, &mut lent) } else { habits.asked(random) };
-        catchup::visit(&mut lent, bytes, &mut watches)?;
-        visits += 1;
+        catchup::call_back(&mut lent, bytes, &mut watches)?;
+        callbacks += 1;
     }
-    tally.count(&watches, visits);
+    tally.count(&watches, callbacks);
     Ok(())
 }
 
@@ -40,7 +43,7 @@ fn is_any_late(watches: &[Watch]) -> bool {
     watches.iter().any(|watch| watch.outcome() == Outcome::Late)
 }
 
-/// What a host does through all of its visits.
+/// What a host does through all of its callbacks.
 struct Habits {
     /// At times a condition of the request is broken.
     breaks: bool,
@@ -193,7 +196,7 @@ fn lay_queue(random: &mut Random, record: &mut [u8], index: usize) {
     put::<4>(record, host::length(index), if is_open { queued } else { 0 });
 }
 
-/// What may change between two visits while all that the request asks holds: the host's settings and guest memory.
+/// What may change between two callbacks while all that the request asks holds: the host's settings and guest memory.
 fn change(random: &mut Random, lent: &mut Lent) {
     if random.percent(40) {
         lay_settings(random, &mut lent.host);
@@ -208,6 +211,19 @@ fn change(random: &mut Random, lent: &mut Lent) {
     if random.percent(5) {
         random.fill(&mut lent.memory[BUFFERS as usize..]);
     }
+}
+
+/// What a guest that goes on running and its host call beside, mostly such as an interrupt's handler does. None of it adds to the deferred frames; a write anywhere may stop a stream, or the
+/// controller, and what the request asks then no longer holds.
+fn go_on(random: &mut Random, lent: &mut Lent) {
+    let (status, anywhere) = (0x83 + 32 * random.below(STREAMS as u64), random.below(0x100));
+    let offset = random.weighted(&[(16, status), (16, 0x24), (16, 0x5d), (1, anywhere)]);
+    lent.buffer = vec![random.byte()];
+    random
+        .pick(&[Call::Read(offset), Call::Write(offset), Call::BarWrite(0, offset), Call::ConfigRead(1), Call::PinPresenceChanged(3)])
+        .make(lent);
+    lent.buffer = random.bytes(4 * LEAST_PULL as usize);
+    Call::Feed.make(lent);
 }
 
 /// What may not: the controller, a stream's registers, a downstream count that calls refuse, or the length of the pull. Gives the bytes that the pull then asks for.

@@ -1,6 +1,6 @@
 //! How soon a stall is over (request T-10): the exact cases of the bound, machines made at random, and the judge of these itself.
 use fuzz::any::{Call, Lent};
-use fuzz::catchup::{ENOUGH, FRAME, LEAST_PULL, Outcome, PLAYBACK, QUEUE_FRAMES, Tally, Visit, Watch, deferred, visit};
+use fuzz::catchup::{Callback, ENOUGH, FRAME, LEAST_PULL, Outcome, PLAYBACK, QUEUE_FRAMES, Tally, Watch, call_back, deferred};
 use fuzz::stalled;
 use port::layout::{QUEUE, device, get, host, put, stream};
 use port::{Machine, number};
@@ -42,20 +42,20 @@ fn stall(index: usize) -> Lent {
 }
 
 /// Frames that are deferred after each of so many pulls, which have an `advance` by 0 ns behind them. What they leave is judged.
-fn deferred_after_each(lent: &Lent, index: usize, visits: u64, frames: u64) -> Vec<u64> {
+fn deferred_after_each(lent: &Lent, index: usize, callbacks: u64, frames: u64) -> Vec<u64> {
     let mut lent = lent.clone();
     let mut watches = Watch::each(&lent.device);
     let mut step = |_| {
-        visit(&mut lent, 4 * frames as usize, &mut watches).unwrap();
+        call_back(&mut lent, 4 * frames as usize, &mut watches).unwrap();
         deferred(&lent.device, index)
     };
-    (0..visits).map(&mut step).collect()
+    (0..callbacks).map(&mut step).collect()
 }
 
-/// The same after the visits that are named, of which the last is the last one.
-fn deferred_after<const N: usize>(lent: &Lent, index: usize, visits: [usize; N], frames: u64) -> [u64; N] {
-    let each = deferred_after_each(lent, index, visits[N - 1] as u64, frames);
-    visits.map(|visits| each[visits - 1])
+/// The same after the callbacks that are named, of which the last is the last one.
+fn deferred_after<const N: usize>(lent: &Lent, index: usize, callbacks: [usize; N], frames: u64) -> [u64; N] {
+    let each = deferred_after_each(lent, index, callbacks[N - 1] as u64, frames);
+    callbacks.map(|callbacks| each[callbacks - 1])
 }
 
 #[test]
@@ -119,19 +119,19 @@ fn no_frame_is_dropped() {
         let submitted = |lent: &Lent| get::<8>(&lent.device, device::stream(index) + stream::SUBMITTED);
         let before = submitted(&lent);
         for _ in 0..ENOUGH {
-            visit(&mut lent, 4 * LEAST_PULL as usize, &mut []).unwrap();
+            call_back(&mut lent, 4 * LEAST_PULL as usize, &mut []).unwrap();
         }
         assert_eq!(submitted(&lent), before + 4 * MOST);
     }
 }
 
-/// A machine for each seed, and up to 40 visits of its host.
+/// A machine for each seed, and up to 40 callbacks of its host.
 fn tally(seeds: RangeInclusive<u64>) -> Tally {
     let mut tally = Tally::default();
     for seed in seeds {
         let mut random = Random::new(seed);
-        let most_visits = random.between(1, 40);
-        if let Err(error) = stalled::play(&mut random, most_visits, &mut tally) {
+        let most_callbacks = random.between(1, 40);
+        if let Err(error) = stalled::play(&mut random, most_callbacks, &mut tally) {
             panic!("machine {seed}: {error}");
         }
     }
@@ -157,7 +157,7 @@ fn a_million_machines_made_at_random() {
     println!("{} calls", tally.calls());
 }
 
-/// A visit of 256 frames to a stalled machine, with what it found and left.
+/// A callback of 256 frames to a stalled machine, with what it found and left.
 struct Seen {
     index: usize,
     watch: Watch,
@@ -169,14 +169,14 @@ impl Seen {
     fn new(index: usize) -> Self {
         let lent = stall(index);
         let mut after = lent.clone();
-        visit(&mut after, 4 * LEAST_PULL as usize, &mut []).unwrap();
+        call_back(&mut after, 4 * LEAST_PULL as usize, &mut []).unwrap();
         Self { index, watch: Watch::new(&lent.device, index), found: lent.device, left: after.device }
     }
 
     /// What the judge says, and of the stall, with so many frames asked for and these numbers returned.
     fn judged(&self, asked: u64, numbers: [u8; 2]) -> (bool, Outcome) {
         let mut watch = self.watch.clone();
-        let is_right = watch.judge(&Visit { asked, numbers, found: &self.found, left: &self.left }).is_ok();
+        let is_right = watch.judge(&Callback { asked, numbers, found: &self.found, left: &self.left }).is_ok();
         (is_right, watch.outcome())
     }
 
@@ -204,7 +204,7 @@ fn the_judge_sees_one_frame_too_many_and_one_too_few() {
 
 /// No call takes a record with more than 8,192 frames deferred. The judge does, and then the bound by itself would allow some for longer.
 #[test]
-fn the_judge_sees_a_frame_left_after_32_visits() {
+fn the_judge_sees_a_frame_left_after_32_callbacks() {
     for index in PLAYBACK {
         let mut record = stall(index).device;
         let mut moved = |frames: u64| {
@@ -214,10 +214,10 @@ fn the_judge_sees_a_frame_left_after_32_visits() {
             record.clone()
         };
         let mut watch = Watch::new(&moved(0), index);
-        for visits in 1..=ENOUGH {
-            let (found, left) = (moved(LEAST_PULL * (visits - 1)), moved(LEAST_PULL * visits));
-            let judged = watch.judge(&Visit { asked: LEAST_PULL, numbers: [number::DONE; 2], found: &found, left: &left });
-            assert_eq!(judged.is_ok(), visits < ENOUGH, "{visits}");
+        for callbacks in 1..=ENOUGH {
+            let (found, left) = (moved(LEAST_PULL * (callbacks - 1)), moved(LEAST_PULL * callbacks));
+            let judged = watch.judge(&Callback { asked: LEAST_PULL, numbers: [number::DONE; 2], found: &found, left: &left });
+            assert_eq!(judged.is_ok(), callbacks < ENOUGH, "{callbacks}");
         }
     }
 }
