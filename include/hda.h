@@ -95,6 +95,15 @@ static inline uint32_t hda_rate(const uint8_t device[HDA_DEVICE_BYTES], const ui
     return hda_format_rate((uint16_t)(format[0] | format[1] << 8));
 }
 
+/* The whole frames that are due in stream 0 or 1 and were not moved, at most 8,192: those of a playback whose queue is full wait for the host's pulls. */
+static inline uint64_t hda_deferred(const uint8_t device[HDA_DEVICE_BYTES], unsigned stream)
+{
+    uint64_t billionths = 0;
+    for (unsigned i = 8; stream <= 1 && i-- > 0;)
+        billionths = billionths << 8 | device[680 + 34 * stream + 22 + i];
+    return billionths / 1000000000;
+}
+
 /* Calls that make a record, whatever its bytes were before. HDA_LENT_SPACE for short lists or queues, then HDA_STATE for another length of the record. */
 
 /* A new device. A microphone other than 0 is there. */

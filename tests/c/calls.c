@@ -248,12 +248,6 @@ static void exchanged(void)
     CHECK(read_register(0x83, 1) & 0x10, 0x10);
 }
 
-/* Whole frames of a stream that are due and were not moved. */
-static uint64_t deferred(unsigned stream)
-{
-    return stands(device, 680 + 34 * stream + 22, 8) / 1000000000;
-}
-
 /* Nobody pulls for two seconds: the queue is full, and as many frames are deferred as can be. Then 32 pulls of 256 frames, with no time between them, are what it takes. */
 static void stalled(void)
 {
@@ -266,11 +260,13 @@ static void stalled(void)
     start(stream, 0x500, 0x1000);
     CHECK(hda_number(hda_advance(RECORDS, MEMORY, 1000000000)), HDA_DONE);
     CHECK(hda_number(hda_advance(RECORDS, MEMORY, 1000000000)), HDA_DONE);
-    CHECK(deferred(stream), 8192);
+    CHECK(hda_deferred(device, stream), 8192);
+    CHECK(hda_deferred(device, 0), 0);
+    CHECK(hda_deferred(device, 2), 0);
     for (unsigned pull = 1; pull <= pulls; pull++) {
         CHECK(hda_value(hda_pull(HOST, frames, sizeof frames)), 256);
         CHECK(hda_number(hda_advance(RECORDS, MEMORY, 0)), HDA_DONE);
-        CHECK(deferred(stream), 256 * (pulls - pull));
+        CHECK(hda_deferred(device, stream), 256 * (pulls - pull));
         CHECK(stands(device, 680 + 34 * stream + 6, 8), 2048 + 1024 * pull);
     }
 }
