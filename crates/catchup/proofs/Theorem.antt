@@ -17,8 +17,8 @@ use Rattle.registers.specs.Places.{dmaOf}
 use Rattle.device.specs.Devices.{streamAt}
 use Rattle.device.specs.Machines.{Machine}
 use Rattle.calls.specs.Calls.{after}
-use Rattle.book.specs.Lists.{handed, run}
-use Rattle.catchup.specs.Callbacks.{Callback, stepsOf, beforePull, beforeAdvance, leftBy, deferredOf, submittedOf, Runs, Running, Asks, Serves, Throughout, GoesOn, AllGoOn, Sized}
+use Rattle.book.specs.Lists.{Step, handed, run}
+use Rattle.catchup.specs.Callbacks.{Callback, callbackSteps, stepsOf, beforePull, beforeAdvance, leftBy, deferredOf, submittedOf, Runs, Running, Asks, Serves, Throughout, GoesOn, AllGoOn, Sized}
 use Rattle.catchup.specs.Claim.{leastPull, mostCallbacks}
 use Rattle.catchup.specs.Between.{Moment, callback, between, stepsAmong, callbacksIn, Among}
 use Rattle.catchup.specs.Corollaries.{takenBy, callbacksFor, Exactly, Full}
@@ -193,7 +193,7 @@ module _ (i : ℕ) (own : i < streams) (plays : captures i ≡ false) where
           go k = omega arith
 
   -- ---- among other calls
-  pub among : (frames : ℕ) (ms : List Moment) (x : Machine) → Among i frames ms x → deferredOf i (run (stepsAmong ms) x) ≤ deferredOf i x - takenBy frames * callbacksIn ms
+  pub among : (frames : ℕ) (ms : List (Moment Callback Step)) (x : Machine) → Among i frames ms x → deferredOf i (run (stepsAmong callbackSteps ms) x) ≤ deferredOf i x - takenBy frames * callbacksIn ms
   unfolding run
   among frames [] x a = omega arith
   among frames (callback c ∷ ms) x a =
@@ -203,7 +203,7 @@ module _ (i : ℕ) (own : i < streams) (plays : captures i ≡ false) where
       le-trans (among frames ms y (a .1)) (less (deferredOf i x) (deferredOf i y) (takenBy frames * callbacksIn ms) (quiet i (s .call) (a .0) (handed s x)))
 
   -- the first callback among them finds at most 8,192
-  pub over-among : (ms : List Moment) (x : Machine) → Among i leastPull ms x → mostCallbacks ≤ callbacksIn ms → deferredOf i (run (stepsAmong ms) x) ≡ 0
+  pub over-among : (ms : List (Moment Callback Step)) (x : Machine) → Among i leastPull ms x → mostCallbacks ≤ callbacksIn ms → deferredOf i (run (stepsAmong callbackSteps ms) x) ≡ 0
   unfolding run
   over-among [] x a enough = absurd (omega arith)
   over-among (callback c ∷ ms) x a enough = none-of-most (deferredOf i x) _ (callbacksIn (callback c ∷ ms)) (most leastPull c x (a .1)) enough (among leastPull (callback c ∷ ms) x a)

@@ -2,7 +2,7 @@
 use Prim.Native.Nat.{ℕ, _*_, _≤_}
 use mathlib.Core.Path.{_≡_}
 use mathlib.Core.Bool.{true, false}
-use mathlib.Core.List.{List, [], _∷_}
+use mathlib.Core.List.{List, [], _∷_, _++_}
 use lib.ListN.{length}
 use Rattle.clock.specs.Frames.{wholeFramesOf}
 use Rattle.stream.specs.Box.{streams}
@@ -42,9 +42,12 @@ abbrev pub advanceStep : Callback → Step
 advanceStep c = stepOf (c .advancing) (calls.advance 0)
 
 -- the calls of demand 3 that they are
+abbrev pub callbackSteps : Callback → List Step
+callbackSteps c = pullStep c ∷ (advanceStep c ∷ [])
+
 abbrev pub stepsOf : List Callback → List Step
 stepsOf [] = []
-stepsOf (c ∷ cs) = pullStep c ∷ (advanceStep c ∷ stepsOf cs)
+stepsOf (c ∷ cs) = callbackSteps c ++ stepsOf cs
 
 -- the machine that the pull finds, the one that it leaves, the one that the `advance` finds, and the one that the callback leaves
 abbrev pub beforePull : Callback → Machine → Machine

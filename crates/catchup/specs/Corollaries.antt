@@ -8,8 +8,8 @@ use Rattle.stream.specs.Box.{streams, captures}
 use Rattle.queue.specs.Queues.{capacity, queue}
 use Rattle.host.specs.Hosts.{queueAt}
 use Rattle.device.specs.Machines.{Machine}
-use Rattle.book.specs.Lists.{run}
-use Rattle.catchup.specs.Callbacks.{Callback, stepsOf, leftBy, deferredOf, Runs, Throughout, Sized}
+use Rattle.book.specs.Lists.{Step, run}
+use Rattle.catchup.specs.Callbacks.{Callback, callbackSteps, stepsOf, leftBy, deferredOf, Runs, Throughout, Sized}
 use Rattle.catchup.specs.Claim.{leastPull, mostCallbacks}
 use Rattle.catchup.specs.Between.{Moment, stepsAmong, callbacksIn, Among}
 
@@ -40,8 +40,8 @@ pub record Counted (i : ℕ) : Type 0 where
       → let y = run (stepsOf cs) x in
       Runs i (y .hda) → deferredOf i y ≡ deferredOf i x - frames * length cs
   -- calls between the callbacks hold nothing up: each callback takes as many as without them, and enough of them empty the stream
-  pub among : (frames : ℕ) (ms : List Moment) (x : Machine) → Among i frames ms x → deferredOf i (run (stepsAmong ms) x) ≤ deferredOf i x - takenBy frames * callbacksIn ms
-  pub over : (ms : List Moment) (x : Machine) → Among i leastPull ms x → mostCallbacks ≤ callbacksIn ms → deferredOf i (run (stepsAmong ms) x) ≡ 0
+  pub among : (frames : ℕ) (ms : List (Moment Callback Step)) (x : Machine) → Among i frames ms x → deferredOf i (run (stepsAmong callbackSteps ms) x) ≤ deferredOf i x - takenBy frames * callbacksIn ms
+  pub over : (ms : List (Moment Callback Step)) (x : Machine) → Among i leastPull ms x → mostCallbacks ≤ callbacksIn ms → deferredOf i (run (stepsAmong callbackSteps ms) x) ≡ 0
 
 -- The sound that the host asks for until then: the deferred frames, and less than one pull more; at r frames a second so many r-ths of a second.
 pub record Corollaries : Type 0 where

@@ -20,11 +20,12 @@ use Rattle.lent_book.proofs.Typed.{after-typed}
 use Rattle.lent_book.proofs.Records.{Ready, bytes-ready, stored-ready, machine-typed, left-meets, left-stays}
 use Rattle.catchup.specs.Callbacks as machines
 use Rattle.catchup.specs.Claim.{leastPull, mostCallbacks}
+use Rattle.catchup.specs.Between.{Moment, callback, between, stepsAmong, callbacksIn}
 use Rattle.catchup.specs.Corollaries.{takenBy}
 use Rattle.catchup.proofs.Quiet.{quiet}
 use Rattle.catchup.proofs.Theorem as theorem
-use Rattle.lent_catchup.specs.Callbacks.{Callback, leftBy, deferredIn, Serves}
-use Rattle.lent_catchup.specs.Between.{IsQuiet, Moment, callback, between, stepsAmong, callbacksIn, Among}
+use Rattle.lent_catchup.specs.Callbacks.{Callback, callbackSteps, leftBy, deferredIn, Serves}
+use Rattle.lent_catchup.specs.Between.{IsQuiet, Among}
 use Rattle.lent_catchup.proofs.Callbacks.{same-deferred}
 use Rattle.lent_catchup.proofs.Theorem.{one-ready, one-late, one-most}
 
@@ -64,7 +65,7 @@ module _ (i : ℕ) (own : i < streams) where
       record { ready = k .ready; few = k .few }
 
   module _ (plays : captures i ≡ false) where
-    ready-among : (frames : ℕ) (ms : List Moment) (x : Lent) → Ready (x .device) → Among i frames ms x → deferredIn i (run (stepsAmong ms) x) ≤ deferredIn i x - takenBy frames * callbacksIn ms
+    ready-among : (frames : ℕ) (ms : List (Moment Callback Step)) (x : Lent) → Ready (x .device) → Among i frames ms x → deferredIn i (run (stepsAmong callbackSteps ms) x) ≤ deferredIn i x - takenBy frames * callbacksIn ms
     unfolding run
     ready-among frames [] x r a = omega arith
     ready-among frames (callback c ∷ ms) x r a =
@@ -75,16 +76,16 @@ module _ (i : ℕ) (own : i < streams) where
         let k = step-leaves s x r (a .0) in
         le-trans (ready-among frames ms y (k .ready) (a .1)) (theorem.less (deferredIn i x) (deferredIn i y) (takenBy frames * callbacksIn ms) (k .few))
 
-    ready-over : (ms : List Moment) (x : Lent) → Ready (x .device) → Among i leastPull ms x → mostCallbacks ≤ callbacksIn ms → deferredIn i (run (stepsAmong ms) x) ≡ 0
+    ready-over : (ms : List (Moment Callback Step)) (x : Lent) → Ready (x .device) → Among i leastPull ms x → mostCallbacks ≤ callbacksIn ms → deferredIn i (run (stepsAmong callbackSteps ms) x) ≡ 0
     unfolding run
     ready-over [] x r a enough = absurd (omega arith)
     ready-over (callback c ∷ ms) x r a enough =
         theorem.none-of-most (deferredIn i x) _ (callbacksIn (callback c ∷ ms)) (one-most i own leastPull c x r (a .0) plays) enough (ready-among leastPull (callback c ∷ ms) x r a)
     ready-over (between s ∷ ms) x r a enough = ready-over ms (after (s .call) (handed s x)) (step-leaves s x r (a .0) .ready) (a .1) enough
 
-    pub among : (frames : ℕ) (ms : List Moment) (x : Lent) → isDevice (x .device) ≡ true → Bytes (x .device) → Among i frames ms x
-        → deferredIn i (run (stepsAmong ms) x) ≤ deferredIn i x - takenBy frames * callbacksIn ms
+    pub among : (frames : ℕ) (ms : List (Moment Callback Step)) (x : Lent) → isDevice (x .device) ≡ true → Bytes (x .device) → Among i frames ms x
+        → deferredIn i (run (stepsAmong callbackSteps ms) x) ≤ deferredIn i x - takenBy frames * callbacksIn ms
     among frames ms x there bytes = ready-among frames ms x (bytes-ready (x .device) there bytes)
 
-    pub over : (ms : List Moment) (x : Lent) → isDevice (x .device) ≡ true → Bytes (x .device) → Among i leastPull ms x → mostCallbacks ≤ callbacksIn ms → deferredIn i (run (stepsAmong ms) x) ≡ 0
+    pub over : (ms : List (Moment Callback Step)) (x : Lent) → isDevice (x .device) ≡ true → Bytes (x .device) → Among i leastPull ms x → mostCallbacks ≤ callbacksIn ms → deferredIn i (run (stepsAmong callbackSteps ms) x) ≡ 0
     over ms x there bytes = ready-over ms x (bytes-ready (x .device) there bytes)

@@ -1,7 +1,7 @@
 -- A host that catches up (request T-10), on the bytes that it lends: in each callback it calls hda_pull, and then hda_advance by 0 ns. What must hold at each, and what is counted, read off the bytes.
 use Prim.Native.Nat.{ℕ, _+_, _*_, _%_, _≤_}
 use mathlib.Core.Path.{_≡_}
-use mathlib.Core.List.{List, [], _∷_}
+use mathlib.Core.List.{List, [], _∷_, _++_}
 use lib.ListN.{length}
 use Rattle.word.specs.Value.{Bytes}
 use Rattle.clock.specs.Frames.{wholeFramesOf}
@@ -40,9 +40,12 @@ advanceStep c =
     record { host = g .host; queues = g .queues; memory = g .memory; call = on (calls.advance 0); hosts = g .hosts; queued = g .queued; bytes = g .bytes; typed = tt }
 
 -- the calls of demand 3 that they are
+abbrev pub callbackSteps : Callback → List Step
+callbackSteps c = pullStep c ∷ (advanceStep c ∷ [])
+
 abbrev pub stepsOf : List Callback → List Step
 stepsOf [] = []
-stepsOf (c ∷ cs) = pullStep c ∷ (advanceStep c ∷ stepsOf cs)
+stepsOf (c ∷ cs) = callbackSteps c ++ stepsOf cs
 
 -- the bytes that the pull finds, those that it leaves, those that the `advance` finds, and those that the callback leaves
 abbrev pub beforePull : Callback → Lent → Lent

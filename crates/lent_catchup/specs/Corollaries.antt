@@ -9,11 +9,12 @@ use Rattle.stream.specs.Box.{streams, captures}
 use Rattle.queue.specs.Queues.{capacity, queue}
 use Rattle.record.specs.Loads.{isDevice}
 use Rattle.port_device.specs.Calls.{Lent}
-use Rattle.lent_book.specs.Lists.{run}
+use Rattle.lent_book.specs.Lists.{Step, run}
 use Rattle.catchup.specs.Claim.{leastPull, mostCallbacks}
 use Rattle.catchup.specs.Corollaries.{takenBy, callbacksFor}
-use Rattle.lent_catchup.specs.Callbacks.{Callback, stepsOf, beforePull, leftBy, deferredIn, queueIn, RunsIn, Throughout}
-use Rattle.lent_catchup.specs.Between.{Moment, stepsAmong, callbacksIn, Among}
+use Rattle.lent_catchup.specs.Callbacks.{Callback, callbackSteps, stepsOf, beforePull, leftBy, deferredIn, queueIn, RunsIn, Throughout}
+use Rattle.catchup.specs.Between.{Moment, stepsAmong, callbacksIn}
+use Rattle.lent_catchup.specs.Between.{Among}
 
 -- each pull wants exactly so many frames, and finds the stream's queue as it was left
 abbrev pub Exactly : ℕ → ℕ → List Callback → Lent → Type 0
@@ -34,9 +35,9 @@ pub record Counted (i : ℕ) : Type 0 where
       → let y = run (stepsOf cs) x in
       RunsIn i y → deferredIn i y ≡ deferredIn i x - frames * length cs
   -- calls between the callbacks hold nothing up, from a device's record on: each callback takes as many as without them, and enough of them empty the stream
-  pub among : (frames : ℕ) (ms : List Moment) (x : Lent) → isDevice (x .device) ≡ true → Bytes (x .device) → Among i frames ms x
-      → deferredIn i (run (stepsAmong ms) x) ≤ deferredIn i x - takenBy frames * callbacksIn ms
-  pub over : (ms : List Moment) (x : Lent) → isDevice (x .device) ≡ true → Bytes (x .device) → Among i leastPull ms x → mostCallbacks ≤ callbacksIn ms → deferredIn i (run (stepsAmong ms) x) ≡ 0
+  pub among : (frames : ℕ) (ms : List (Moment Callback Step)) (x : Lent) → isDevice (x .device) ≡ true → Bytes (x .device) → Among i frames ms x
+      → deferredIn i (run (stepsAmong callbackSteps ms) x) ≤ deferredIn i x - takenBy frames * callbacksIn ms
+  pub over : (ms : List (Moment Callback Step)) (x : Lent) → isDevice (x .device) ≡ true → Bytes (x .device) → Among i leastPull ms x → mostCallbacks ≤ callbacksIn ms → deferredIn i (run (stepsAmong callbackSteps ms) x) ≡ 0
 
 pub record CorollariesBytes : Type 0 where
   pub counted : (i : ℕ) → i < streams → captures i ≡ false → Counted i
