@@ -1,14 +1,14 @@
 -- One callback: a pull makes room for what it asked for, and the `advance` behind it fills that room with deferred frames. Stated of the machines that the two calls find, so that it serves lists on machines and on bytes.
 -- Assumes nothing.
 use Prim.Native.Nat.{ℕ, _+_, _-_, _*_, _/_, _≤_, _<_, min}
-use mathlib.Core.Path.{_≡_, refl, sym, ap, subst, _∙_}
-use mathlib.Core.Bool.{Bool, true, false}
+use mathlib.Core.Path.{_≡_, sym, ap, _∙_}
+use mathlib.Core.Bool.{true, false}
 use mathlib.Core.List.{List}
 use native.Mathlib.Omega.{arith}
 use native.Mathlib.Nat.{le-trans}
 use borrow.Author.Tests.{eqb-true, eqb-false, ltb-false}
-use lib.Dec.{eqb, ltb}
-use lib.ListN.{length, set}
+use lib.Dec.{eqb}
+use lib.ListN.{length}
 use lib.Seq.{getD-set-same}
 use Rattle.word.proofs.Choices.{by-cond}
 use Rattle.word.proofs.Lists.{at-set}
@@ -19,15 +19,14 @@ use Rattle.host.specs.declared.Host.{Host}
 use Rattle.host.specs.Hosts.{queueAt}
 use Rattle.driver.specs.Calls.{playbackStream, frameCheckOf, Pull, pullOf}
 use Rattle.driver.proofs.Checks.{frames-ready}
-use Rattle.device.specs.Devices.{streamAt}
 use Rattle.device.specs.Machines.{Machine}
 use Rattle.advance.specs.Advance.{advanceOf}
 use Rattle.calls.specs.Calls as calls
 use Rattle.calls.specs.Calls.{after}
 use Rattle.catchup.specs.Callbacks.{deferredOf, submittedOf, Runs, Running, Sized}
 use Rattle.catchup.specs.Corollaries.{takenBy, Full}
-use Rattle.catchup.proofs.Rounds.{Open, Carries, totalOf, heldOf}
-use Rattle.catchup.proofs.Advance.{Stays, advance-stays, advance-time, Caught, advance-caught}
+use Rattle.catchup.proofs.Rounds.{Open}
+use Rattle.catchup.proofs.Advance.{advance-time, Caught, advance-caught}
 
 -- the stream that a pull takes from is the only one that plays
 one-plays : (i : ℕ) → i < streams → captures i ≡ false → i ≡ playbackStream
@@ -136,8 +135,3 @@ module _ (i : ℕ) (own : i < streams) (plays : captures i ≡ false) (p : Machi
 
       whole : {q : Queue} → q .live ≡ true → q .length ≡ capacity → q ≡ queue true capacity
       whole live long = rw (live, long)
-
-  -- what lasts of the device
-  pub callback-stays : Stays (y .hda) (z .hda)
-  unfolding after
-  callback-stays = advance-stays y sized

@@ -1,17 +1,16 @@
 -- Calls between callbacks: none but an `advance` and a restore adds to a stream's deferred frames. Assumes nothing.
-use Prim.Native.Nat.{ℕ, _<_, _≤_, _+_, _*_, _^_}
-use mathlib.Core.Path.{_≡_, refl, sym, subst}
-use mathlib.Core.Bool.{Bool, not, cond, _&&_}
+use Prim.Native.Nat.{ℕ, _≤_, _+_, _*_, _^_}
+use mathlib.Core.Path.{_≡_, sym, subst}
+use mathlib.Core.Bool.{Bool, not, _&&_}
 use mathlib.Core.List.{List}
 use mathlib.Core.Logic.{_≢_}
 use native.Mathlib.Omega.{arith}
-use native.Mathlib.Nat.{le-trans}
 use borrow.Author.Tests.{eqb-false}
 use lib.Dec.{eqb, ltb}
 use lib.ListN.{length, getD, set}
 use lib.Seq.{getD-set-other}
 use Rattle.word.specs.Place.{wordAt}
-use Rattle.word.proofs.Choices.{by-cond, by-value, by-test}
+use Rattle.word.proofs.Choices.{by-cond, by-value}
 use Rattle.word.proofs.Each.{each-keeps}
 use Rattle.word.proofs.Lists.{at-set}
 use Rattle.format.specs.declared.Format.{Format}
@@ -30,14 +29,13 @@ use Rattle.device.specs.Devices.{streamAt, withPaused}
 use Rattle.device.specs.Machines.{Machine, Done, Commanded, checkMachine, checked, answerOf, unchanged, finishOf, finished, commandedOf, withCommanded}
 use Rattle.settle.specs.declared.Ports.{Ports}
 use Rattle.settle.specs.Settle.{ports, channelAt, clearedOf, resetAt, resetControllerOf, settleAt, settleOf}
-use Rattle.write.specs.Writes.{writtenOf, controlledOf, flushedOf, tailOf, tailedOf, writeStep, writeOf}
+use Rattle.write.specs.Writes.{writtenOf, controlledOf, flushedOf, tailOf, writeStep, writeOf}
 use Rattle.hda.specs.Calls.{configured, configWriteStep, configWriteOf, barWriteOf, pinControl, unsolicited, listens, pinStep, pinOf, pauseOf}
 use Rattle.calls.specs.Calls as calls
 use Rattle.calls.specs.Calls.{Call, after}
 use Rattle.catchup.specs.Callbacks.{deferredOf}
 use Rattle.catchup.specs.Between.{IsQuiet}
 use Rattle.catchup.proofs.Turns.{wholeOf}
-use Rattle.catchup.proofs.Rounds.{stopped-late}
 
 module _ (i n : ℕ) where
   -- at most n whole frames are deferred

@@ -12,7 +12,6 @@ use Rattle.word.specs.Each.{eachOf, further}
 use Rattle.word.proofs.Choices.{by-cond}
 use Rattle.word.proofs.Place.{word-byte}
 use Rattle.clock.specs.Billionths.{billion}
-use Rattle.codec.specs.declared.Codec.{Codec}
 use Rattle.stream.specs.declared.Stream.{Stream}
 use Rattle.stream.specs.Box.{streams, captures}
 use Rattle.stream.specs.Streams.{listSize, freshOf}
@@ -31,7 +30,7 @@ use Rattle.serve.specs.Serve.{Turns, turnsOf, runs, takenOf, turnAt, goesOn, se
 use Rattle.book.proofs.Loops.{each-split, each-range, each-turn}
 use Rattle.book.proofs.Shown.{stored-size, stored-elsewhere, turn-regs}
 use Rattle.book.proofs.Serve.{anything}
-use Rattle.book.proofs.Turns.{Same, opened-same}
+use Rattle.book.proofs.Turns.{opened-same}
 use Rattle.catchup.proofs.Rounds.{Carries}
 use Rattle.catchup.proofs.Turns.{wholeOf, turn-late, turn-kept}
 

@@ -1,9 +1,8 @@
 -- Lists of callbacks. Assumes nothing.
-use Prim.Native.Nat.{ℕ, zero, suc, _+_, _-_, _*_, _/_, _≤_, _<_, min}
+use Prim.Native.Nat.{ℕ, suc, _+_, _-_, _*_, _/_, _≤_, _<_}
 use mathlib.Core.Path.{_≡_, refl, sym, _∙_}
 use mathlib.Core.Bool.{false}
 use mathlib.Core.List.{List, [], _∷_}
-use mathlib.Core.Logic.{_⊎_, inl, inr, ⊎-elim}
 use native.Mathlib.Omega.{arith}
 use native.Mathlib.Nat.{le-trans, mul-suc, suc-mul, mul-comm, div-lt-iff-lt-mul, div-mul-le-self}
 use borrow.Author.Tests.{leb-true, leb-false}
@@ -18,12 +17,12 @@ use Rattle.device.specs.Devices.{streamAt}
 use Rattle.device.specs.Machines.{Machine}
 use Rattle.calls.specs.Calls.{after}
 use Rattle.book.specs.Lists.{Step, handed, run}
-use Rattle.catchup.specs.Callbacks.{Callback, callbackSteps, stepsOf, beforePull, beforeAdvance, leftBy, deferredOf, submittedOf, Runs, Running, Asks, Serves, Throughout, GoesOn, AllGoOn, Sized}
+use Rattle.catchup.specs.Callbacks.{Callback, callbackSteps, stepsOf, beforePull, beforeAdvance, leftBy, deferredOf, submittedOf, Runs, Running, Serves, Throughout, GoesOn, AllGoOn, Sized}
 use Rattle.catchup.specs.Claim.{leastPull, mostCallbacks}
 use Rattle.catchup.specs.Between.{Moment, callback, between, stepsAmong, callbacksIn, Among}
 use Rattle.catchup.specs.Corollaries.{takenBy, callbacksFor, Exactly, Full}
 use Rattle.catchup.proofs.Advance.{Stays, advance-stays, advance-time}
-use Rattle.catchup.proofs.Callbacks.{callback-late, callback-moved, Exact, callback-exact}
+use Rattle.catchup.proofs.Callbacks.{callback-late, callback-moved, callback-exact}
 use Rattle.catchup.proofs.Quiet.{quiet}
 
 -- ---- one callback of a list

@@ -24,7 +24,7 @@ use Rattle.queue.specs.declared.Queue.{Queue}
 use Rattle.queue.specs.Queues.{capacity, queue, closed}
 use Rattle.host.specs.declared.Host.{Host}
 use Rattle.host.specs.declared.Opening.{Opening}
-use Rattle.host.specs.Hosts.{openingOf, openOf, failsOf, queueAt, withQueue}
+use Rattle.host.specs.Hosts.{openingOf, openOf, queueAt, withQueue}
 use Rattle.registers.specs.Places.{ctl, sts, lpib, fmt, byteAt, keepBits}
 use Rattle.turn.specs.declared.Engine.{Engine}
 use Rattle.turn.specs.Setups.{setupOf}

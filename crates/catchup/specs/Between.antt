@@ -7,6 +7,7 @@ use Rattle.calls.specs.Calls.{Call, after}
 use Rattle.book.specs.Lists.{Step, handed}
 use Rattle.catchup.specs.Callbacks.{Callback, leftBy, Serves, Sized}
 
+-- a call that brings neither
 abbrev pub IsQuiet : Call → Type 0
 IsQuiet (calls.advance nanos) = ⊥
 IsQuiet (calls.read offset into) = Unit {0}

@@ -17,7 +17,7 @@ use Rattle.serve.specs.Serve as serve
 use Rattle.advance.specs.Advance.{stillOf, advanceOf}
 use Rattle.calls.specs.Calls as calls
 use Rattle.calls.specs.Calls.{Call, after}
-use Rattle.book.specs.Lists.{Step, handed, run}
+use Rattle.book.specs.Lists.{Step, handed}
 
 -- what a call is handed beside the device and its lists, as a step of demand 3 has it
 pub record Handed : Type 0 where

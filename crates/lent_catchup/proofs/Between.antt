@@ -1,7 +1,7 @@
 -- Other calls between the callbacks, on bytes: each is the call on the machine in them, and leaves a record. Assumes nothing.
-use Prim.Native.Nat.{ℕ, suc, _-_, _*_, _≤_, _<_}
+use Prim.Native.Nat.{ℕ, _-_, _*_, _≤_, _<_}
 use mathlib.Core.Path.{_≡_, refl, sym, ap, subst, _∙_}
-use mathlib.Core.Bool.{Bool, true, false}
+use mathlib.Core.Bool.{true, false}
 use mathlib.Core.List.{List, [], _∷_}
 use native.Mathlib.Omega.{arith}
 use native.Mathlib.Nat.{le-trans}
@@ -24,7 +24,7 @@ use Rattle.catchup.specs.Between.{Moment, callback, between, stepsAmong, callba
 use Rattle.catchup.specs.Corollaries.{takenBy}
 use Rattle.catchup.proofs.Quiet.{quiet}
 use Rattle.catchup.proofs.Theorem as theorem
-use Rattle.lent_catchup.specs.Callbacks.{Callback, callbackSteps, leftBy, deferredIn, Serves}
+use Rattle.lent_catchup.specs.Callbacks.{Callback, callbackSteps, leftBy, deferredIn}
 use Rattle.lent_catchup.specs.Between.{IsQuiet, Among}
 use Rattle.lent_catchup.proofs.Callbacks.{same-deferred}
 use Rattle.lent_catchup.proofs.Theorem.{one-ready, one-late, one-most}

@@ -1,18 +1,15 @@
 -- A callback on bytes is the callback on the machine in them. Assumes nothing.
 use Prim.Native.Nat.{ℕ, _<_}
-use mathlib.Core.Path.{_≡_, refl, sym, ap, subst, _∙_}
-use mathlib.Core.Bool.{true, _&&_}
+use mathlib.Core.Path.{_≡_, refl, sym, ap, _∙_}
+use mathlib.Core.Bool.{true}
 use mathlib.Core.List.{List}
-use native.Mathlib.Omega.{arith}
 use native.Mathlib.Nat.{zero-add}
 use lib.ListN.{length}
-use Rattle.word.specs.Value.{Bytes}
 use Rattle.clock.specs.Frames.{wholeFramesOf}
 use Rattle.stream.specs.declared.Stream.{Stream}
 use Rattle.stream.specs.Box.{streams}
 use Rattle.queue.specs.Queues.{closed}
 use Rattle.host.specs.Hosts as hosts
-use Rattle.device.specs.Devices as devices
 use Rattle.device.specs.Machines.{Machine}
 use Rattle.driver.specs.Calls as driver
 use Rattle.advance.specs.Advance.{advanceOf}
@@ -25,13 +22,13 @@ use Rattle.reply.specs.Replies.{isMachine}
 use Rattle.reply.proofs.Records.{machine-host}
 use Rattle.calls.specs.Calls as calls
 use Rattle.port_device.specs.Calls.{Lent, machineAt}
-use Rattle.lent_calls.specs.Calls.{on, after}
+use Rattle.lent_calls.specs.Calls.{after}
 use Rattle.lent_book.specs.Typed.{TypedMachine}
 use Rattle.lent_book.proofs.Typed.{after-typed}
 use Rattle.lent_book.proofs.Records.{Ready, stored-ready, machine-typed, Meets, left-meets}
 use Rattle.catchup.specs.Callbacks as machines
 use Rattle.lent_catchup.specs.Callbacks.{Handed, Callback, beforePull, afterPull, beforeAdvance, leftBy, deferredIn, submittedIn, queueIn, Asks}
-use Rattle.lent_catchup.proofs.Numbers.{pull-number, advance-number}
+use Rattle.lent_catchup.proofs.Numbers.{pull-number}
 
 -- ---- what stands in the bytes
 pub same-deferred : (i : ℕ) → i < streams → (x : Lent) → deferredIn i x ≡ machines.deferredOf i (machineAt x)

@@ -1,17 +1,15 @@
 -- Lists of callbacks on bytes, from those on machines. Assumes nothing.
 use Prim.Native.Nat.{ℕ, suc, _+_, _-_, _*_, _/_, _≤_, _<_}
 use mathlib.Core.Path.{_≡_, refl, sym, ap, subst, _∙_}
-use mathlib.Core.Bool.{true, false}
+use mathlib.Core.Bool.{false}
 use mathlib.Core.List.{List, [], _∷_}
 use native.Mathlib.Omega.{arith}
 use lib.ListN.{length}
 use Rattle.word.specs.Value.{Bytes}
 use Rattle.stream.specs.Box.{streams, captures}
 use Rattle.queue.specs.Queues.{capacity}
-use Rattle.device.specs.declared.Hda.{Hda}
 use Rattle.device.specs.Machines.{Machine}
 use Rattle.advance.specs.Advance.{advanceOf}
-use Rattle.record.specs.Loads.{deviceAt}
 use Rattle.reply.proofs.Records.{machine-device}
 use Rattle.port_device.specs.Calls.{Lent, machineAt}
 use Rattle.lent_calls.specs.Calls.{after}

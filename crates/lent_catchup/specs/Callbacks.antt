@@ -1,5 +1,5 @@
 -- A host that catches up (request T-10), on the bytes that it lends: in each callback it calls hda_pull, and then hda_advance by 0 ns. What must hold at each, and what is counted, read off the bytes.
-use Prim.Native.Nat.{ℕ, _+_, _*_, _%_, _≤_}
+use Prim.Native.Nat.{ℕ, _*_, _%_, _≤_}
 use mathlib.Core.Path.{_≡_}
 use mathlib.Core.List.{List, [], _∷_, _++_}
 use lib.ListN.{length}
@@ -11,7 +11,7 @@ use Rattle.host_record.specs.Hosts.{queueAt, queuePlace}
 use Rattle.calls.specs.Calls as calls
 use Rattle.port_device.specs.Calls.{Lent}
 use Rattle.lent_calls.specs.Calls.{on, callOf, after}
-use Rattle.lent_book.specs.Lists.{Step, handed, run, streamIn}
+use Rattle.lent_book.specs.Lists.{Step, handed, streamIn}
 use Rattle.catchup.specs.Callbacks.{Runs, Running}
 
 -- what a call is handed beside the device's record and its lists, as a step of demand 3 on bytes has it
