@@ -173,6 +173,7 @@ module _ (F : Type 0) (i : ℕ) (own : i < streams) where
   after-held (calls.save into) x a none sized h = h
   after-held (calls.restore strict state) x a none sized h =
       restore-held strict state (x .hda) (x .host) (x .lists) F i own a h (length (x .queues)) (λ f check number. none f strict state refl (check, number))
+  after-held (calls.advanceBounds shortest longest lists queues memory into) x a none sized h = h
 
   pub run-held : (cs : List Step) (x : Machine) (a : Ghost) → (F → NoRestore cs x) → HeldBy a x → HeldBy (sees (allEvents i cs x) a) (run cs x)
   unfolding run allEvents

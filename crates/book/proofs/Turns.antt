@@ -281,7 +281,7 @@ setup-capture regs codec i downstream limit = refl
 
 -- an opening that is not refused leaves a playback up, and none changes the downstream count or how many queues there are
 module _ (h : Host) (microphone : Bool) (i : ℕ) where
-  opened-live : captures i ≡ false → i < length (h .queues) → openStreamOf h microphone i .ok ≡ true → queueAt (openStreamOf h microphone i .host) i .live ≡ true
+  pub opened-live : captures i ≡ false → i < length (h .queues) → openStreamOf h microphone i .ok ≡ true → queueAt (openStreamOf h microphone i .host) i .live ≡ true
   unfolding openStreamOf openOf
   opened-live plays few =
       let P : Opening → Type 0 = λ o. o .ok ≡ true → queueAt (o .host) i .live ≡ true in

@@ -197,3 +197,4 @@ eventsOf i (calls.captureFails fails) x = []
 eventsOf i (calls.downstream n) x = []
 eventsOf i (calls.save into) x = []
 eventsOf i (calls.restore strict state) x = onlyIf (eqb (checkMachine x) 0) (restoreEvents strict state i x)
+eventsOf i (calls.advanceBounds shortest longest lists queues memory into) x = []

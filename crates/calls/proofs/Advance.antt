@@ -30,7 +30,7 @@ use Rattle.calls.proofs.Turns.{turn-file}
 use Rattle.calls.proofs.Devices.{Holds, device-changed, with-file, part-size, commanded-holds, Stands, Leaves, unchanged-leaves, finished-leaves, checked-leaves, commanded-stands}
 
 -- the clock, and the register that shows it
-ticked-holds : (l : List ℕ) (x : Machine) (nanos : ℕ) → Holds l (ports (x .hda) (x .host)) → Holds l (ports (tickedOf nanos (x .hda)) (x .host))
+pub ticked-holds : (l : List ℕ) (x : Machine) (nanos : ℕ) → Holds l (ports (x .hda) (x .host)) → Holds l (ports (tickedOf nanos (x .hda)) (x .host))
 unfolding tickedOf
 ticked-holds l x nanos h =
     let v = device-parts (x .hda) l (h .device) in
@@ -72,7 +72,7 @@ module _ (nanos : ℕ) where
   abbrev Served : Turns → Type 0
   Served w = Stands (w .machine)
 
-  turn-stands : (i : ℕ) (w : Turns) → i < streams → Served w → Served (turnAt nanos i w)
+  pub turn-stands : (i : ℕ) (w : Turns) → i < streams → Stands (w .machine) → Stands (turnAt nanos i w .machine)
   unfolding turnAt
   turn-stands i w few s = by-cond Served (runs (w .machine .hda .regs) i) _ _ (λ _. taken-stands i (w .machine) few s) (λ _. s)
 

@@ -24,7 +24,7 @@ use Rattle.calls.proofs.Writes.{write-leaves, bar-write-leaves}
 use Rattle.calls.proofs.Calls.{config-write-leaves, pin-leaves, pause-holds}
 use Rattle.calls.proofs.Advance.{advance-leaves}
 use Rattle.calls.proofs.Restore.{restore-stands}
-use Rattle.calls.specs.Calls.{Call, advance, read, write, barRead, barWrite, configRead, configWrite, pinChange, pause, feed, pull, playbackFails, captureFails, downstream, save, restore, withHost, after, Typed, Valid, run, AllTyped, newMachine}
+use Rattle.calls.specs.Calls.{Call, advance, read, write, barRead, barWrite, configRead, configWrite, pinChange, pause, feed, pull, playbackFails, captureFails, downstream, save, restore, advanceBounds, withHost, after, Typed, Valid, run, AllTyped, newMachine}
 
 stands : (x : Machine) → Valid x → Stands x
 stands x v = check-stands x (v .passes) (record { sized = v .sized; bytes = v .bytes })
@@ -56,6 +56,7 @@ after-stands (captureFails fails) t x s = with-host x _ (x .queues) (capture-val
 after-stands (downstream n) t x s = with-host x _ (x .queues) (downstream-valid (x .host) (s .holds .host) (length (x .queues)) n) refl s
 after-stands (save into) t x s = s
 after-stands (restore strict state) t x s = restore-stands x s strict state t
+after-stands (advanceBounds shortest longest lists queues memory into) t x s = s
 
 pub after-valid : (c : Call) → Typed c → (x : Machine) → Valid x → Valid (after c x)
 after-valid c t x v = valid (after c x) (after-stands c t x (stands x v))

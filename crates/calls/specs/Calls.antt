@@ -41,6 +41,8 @@ pub data Call : Type 0 where
   save : List ℕ → Call
   -- whether crowded lists are refused, or else emptied (request T-09), and the state
   restore : Bool → List ℕ → Call
+  -- the shortest and the longest elapsed time, the scratch for lists, queues and guest memory, and the space for the result (request T-13)
+  advanceBounds : ℕ → ℕ → List ℕ → List ℕ → List ℕ → List ℕ → Call
 
 -- the machine that a call leaves
 abbrev pub leftOf : Done → Machine
@@ -57,7 +59,7 @@ withDevice x d = machine d (x .host) (x .lists) (x .queues) (x .memory)
 abbrev pub withRestored : Machine → Restored → Machine
 withRestored x r = machine (r .answer .hda) (r .answer .host) (r .lists) (x .queues) (x .memory)
 
--- a read, of registers, configuration or state, is lent the machine as it is
+-- a read, of registers, configuration or state, is lent the machine as it is, and so is the call that asks for the bounds of an `advance` and makes none
 unfoldable pub after : Call → Machine → Machine
 after (advance nanos) x = leftOf (advanceOf nanos x)
 after (read offset into) x = x
@@ -75,6 +77,7 @@ after (captureFails fails) x = withHost x (captureFailsOf (x .host) (length (x .
 after (downstream n) x = withHost x (downstreamOf (x .host) (length (x .queues)) n .host) (x .queues)
 after (save into) x = x
 after (restore strict state) x = withRestored x (restoreOf strict state (x .hda) (x .host) (x .lists) (length (x .queues)))
+after (advanceBounds shortest longest lists queues memory into) x = x
 
 -- what the types say of the bytes that a call writes to the registers, of frames, and of a state
 abbrev pub Typed : Call → Type 0
@@ -94,6 +97,7 @@ Typed (captureFails fails) = Unit {0}
 Typed (downstream n) = Unit {0}
 Typed (save into) = Unit {0}
 Typed (restore strict state) = Bytes state
+Typed (advanceBounds shortest longest lists queues memory into) = Unit {0}
 
 -- A machine that passes the check of every call (document 01, "Numbers returned", below the table), and whose registers are what their type says: 256 bytes.
 pub record Valid (x : Machine) : Type 0 where

@@ -181,6 +181,7 @@ module _ (i n : ℕ) where
   quiet-holds (calls.downstream bytes) q x h = h
   quiet-holds (calls.save into) q x h = h
   quiet-holds (calls.restore strict state) none x h = absurd none
+  quiet-holds (calls.advanceBounds shortest longest lists queues memory into) q x h = h
 
 pub quiet : (i : ℕ) (c : Call) → IsQuiet c → (x : Machine) → deferredOf i (after c x) ≤ deferredOf i x
 quiet i c q x = quiet-holds i (deferredOf i x) c q x (omega arith)

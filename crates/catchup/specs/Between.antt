@@ -25,6 +25,7 @@ IsQuiet (calls.captureFails fails) = Unit {0}
 IsQuiet (calls.downstream bytes) = Unit {0}
 IsQuiet (calls.save into) = Unit {0}
 IsQuiet (calls.restore strict state) = ⊥
+IsQuiet (calls.advanceBounds shortest longest lists queues memory into) = Unit {0}
 
 -- a callback, or a call between two: on machines, and on bytes with theirs
 pub data Moment (C S : Type 0) : Type 0 where

@@ -143,6 +143,7 @@ module _ (x : Lent) (e : isMachine (x .device) (x .host) ≡ true) (t : TypedMac
   left-meets (calls.downstream n) c = setting-meets (λ h k. downstreamOf h k n) (after-typed (calls.downstream n) c (machineAt x) t)
   left-meets (calls.save into) c = record { same = refl; there = there }
   left-meets (calls.restore strict state) c = restore-meets strict state (after-typed (calls.restore strict state) c (machineAt x) t)
+  left-meets (calls.advanceBounds shortest longest lists queues memory into) c = record { same = refl; there = there }
 
 -- ---- bytes that are none
 pub record Stays (x y : Lent) : Type 0 where
@@ -172,3 +173,4 @@ module _ (x : Lent) (e : isMachine (x .device) (x .host) ≡ false) where
   left-stays (calls.downstream n) = record { device = refl; lists = refl }
   left-stays (calls.save into) = record { device = refl; lists = refl }
   left-stays (calls.restore strict state) = record { device = rw e; lists = rw e }
+  left-stays (calls.advanceBounds shortest longest lists queues memory into) = record { device = refl; lists = refl }

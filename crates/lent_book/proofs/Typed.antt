@@ -255,6 +255,7 @@ after-kept (calls.captureFails fails) t x k = with-host x k _ (x .queues) (captu
 after-kept (calls.downstream n) t x k = with-host x k _ (x .queues) (downstream-typed (x .host) (k .host) (length (x .queues)) n) (k .queues)
 after-kept (calls.save into) t x k = k
 after-kept (calls.restore strict state) t x k = restore-kept x k strict state t
+after-kept (calls.advanceBounds shortest longest lists queues memory into) t x k = k
 
 -- a device that passes the check has the other widths too
 stream-typed : (s : Stream) (l : List ℕ) → validOf s l ≡ true → Counts s → TypedStream s
@@ -309,6 +310,7 @@ module _ (x : Machine) (e : eqb (checkMachine x) 0 ≡ false) where
   refused-same (calls.downstream n) = refl
   refused-same (calls.save into) = refl
   refused-same (calls.restore strict state) = rw e
+  refused-same (calls.advanceBounds shortest longest lists queues memory into) = refl
 
 kept : (x : Machine) → TypedMachine x → Kept x
 kept x t =
@@ -358,6 +360,7 @@ refused-lists x e (calls.captureFails fails) = refl
 refused-lists x e (calls.downstream n) = refl
 refused-lists x e (calls.save into) = refl
 refused-lists x e (calls.restore strict state) = rw e
+refused-lists x e (calls.advanceBounds shortest longest lists queues memory into) = refl
 
 -- a valid device stays valid, whatever the host end and the queues are
 pub after-sound : (c : Call) → calls.Typed c → (x : Machine) → TypedMachine x → devices.validOf (x .hda) (x .lists) ≡ true

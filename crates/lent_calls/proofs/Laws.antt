@@ -7,6 +7,8 @@ use Rattle.calls.specs.Calls as calls
 use Rattle.port_device.specs.Calls.{Lent, lent, none, returned, made}
 use Rattle.port_reads.specs.Reads.{shown}
 use Rattle.port_host.specs.Calls.{kept, fedOut, pulledOut}
+use Rattle.jitter.specs.Calls.{Scratch}
+use Rattle.port_jitter.specs.Calls.{boundedOut}
 use Rattle.lent_calls.specs.Calls.{Call, new, hostNew, on, callOn, callOf, handedOn, handedTo, leftBy, after}
 
 on-no-further : (c : calls.Call) (x : Lent) → callOn c x ≡ callOn c (handedOn c x)
@@ -26,6 +28,7 @@ on-no-further (calls.captureFails fails) x = refl
 on-no-further (calls.downstream bytes) x = refl
 on-no-further (calls.save into) x = refl
 on-no-further (calls.restore strict state) x = refl
+on-no-further (calls.advanceBounds shortest longest lists queues memory into) x = refl
 
 pub looks-no-further : (c : Call) (x : Lent) → callOf c x ≡ callOf c (handedTo c x)
 looks-no-further (new microphone) x = refl
@@ -104,3 +107,7 @@ save-stands into r x shows e = sym (ap (leftBy (on (calls.save into)) x) e)
 restore-stands : (strict : Bool) (state : List ℕ) (r : ℕ) (x : Lent) (device host lists queues : List ℕ) → returned r (lent device host lists queues none) ≡ callOf (on (calls.restore strict state)) x → after (on (calls.restore strict state)) x ≡ lent device host lists queues (x .memory)
 unfolding after
 restore-stands strict state r x device host lists queues e = sym (ap (leftBy (on (calls.restore strict state)) x) e)
+
+bounds-stands : (shortest longest : ℕ) (lists queues memory into : List ℕ) (r : ℕ) (x : Lent) (s : Scratch) (result : List ℕ) → boundedOut r s result ≡ callOf (on (calls.advanceBounds shortest longest lists queues memory into)) x → after (on (calls.advanceBounds shortest longest lists queues memory into)) x ≡ x
+unfolding after
+bounds-stands shortest longest lists queues memory into r x s result e = sym (ap (leftBy (on (calls.advanceBounds shortest longest lists queues memory into)) x) e)

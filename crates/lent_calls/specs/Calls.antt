@@ -12,6 +12,8 @@ use Rattle.port_device.specs.Calls.{Lent, lent, Returned, Made, behind, none, r
 use Rattle.port_reads.specs.Reads.{Shown, readOf, barReadOf, configReadOf, saveOf}
 use Rattle.port_host.specs.Calls as ends
 use Rattle.port_host.specs.Calls.{Kept, FedBytes, PulledBytes, feedOf, pullOf, setting}
+use Rattle.jitter.specs.Calls.{scratch}
+use Rattle.port_jitter.specs.Calls.{BoundedBytes, boundsOf}
 
 -- hda_new, hda_host_new, and the function of each other call
 pub data Call : Type 0 where
@@ -37,6 +39,7 @@ OutcomeOn (calls.captureFails fails) = Kept
 OutcomeOn (calls.downstream n) = Kept
 OutcomeOn (calls.save into) = Shown
 OutcomeOn (calls.restore strict state) = Returned
+OutcomeOn (calls.advanceBounds shortest longest lists queues memory into) = BoundedBytes
 
 abbrev pub Outcome : Call → Type 0
 Outcome (new microphone) = Made
@@ -61,6 +64,7 @@ callOn (calls.captureFails fails) x = setting (λ h n. captureFailsOf h n fails)
 callOn (calls.downstream bytes) x = setting (λ h n. downstreamOf h n bytes) (x .host) (length (x .queues))
 callOn (calls.save into) x = saveOf (x .device) (x .host) (x .lists) (length (x .queues)) into
 callOn (calls.restore strict state) x = behind (restoredBy strict state) (lent (x .device) (x .host) (x .lists) (x .queues) none)
+callOn (calls.advanceBounds shortest longest lists queues memory into) x = boundsOf shortest longest (x .device) (x .host) (x .lists) (x .queues) (x .memory) (scratch lists queues memory) into
 
 abbrev pub callOf : (c : Call) → Lent → Outcome c
 callOf (new microphone) x = newOf microphone (x .device) (length (x .lists)) (length (x .queues))
@@ -85,6 +89,7 @@ handedOn (calls.captureFails fails) x = lent none (x .host) none (x .queues) non
 handedOn (calls.downstream bytes) x = lent none (x .host) none (x .queues) none
 handedOn (calls.save into) x = lent (x .device) (x .host) (x .lists) (x .queues) none
 handedOn (calls.restore strict state) x = lent (x .device) (x .host) (x .lists) (x .queues) none
+handedOn (calls.advanceBounds shortest longest lists queues memory into) x = x
 
 abbrev pub handedTo : Call → Lent → Lent
 handedTo (new microphone) x = lent (x .device) none (x .lists) (x .queues) none
@@ -118,6 +123,7 @@ leftOn (calls.captureFails fails) x r = withHost x (r .host) (x .queues)
 leftOn (calls.downstream bytes) x r = withHost x (r .host) (x .queues)
 leftOn (calls.save into) x r = x
 leftOn (calls.restore strict state) x r = withMemory (r .lent) (x .memory)
+leftOn (calls.advanceBounds shortest longest lists queues memory into) x r = x
 
 abbrev pub leftBy : (c : Call) → Lent → Outcome c → Lent
 leftBy (new microphone) x r = withDevice x (r .device)

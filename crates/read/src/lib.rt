@@ -112,7 +112,7 @@ pub fn read(
 }
 
 // Zeros in the place of a buffer's bytes.
-fn clear(into: &mut [u8])
+pub fn clear(into: &mut [u8])
     ensures { λ _. ⌜ now (into .exit) ≡ replicate (length (now (into .entry))) 0 ⌝ }
 {
     let mut i = 0;

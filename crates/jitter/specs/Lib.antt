@@ -1,0 +1,3 @@
+pub mod Bounds
+pub mod Calls
+pub mod Steps
