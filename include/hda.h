@@ -1,4 +1,4 @@
-/* The ICH9 HDA sound device of libport.a (`rt staticlib port`), for C and C++ on x86-64.
+/* The ICH9 HDA sound device of libport.a (`tools/device`), for C and C++ on x86-64.
  *
  * The caller keeps everything: the device and its host end are records of bytes, and lists, queues and guest memory are lent to each call. docs/LAYOUT.md has the
  * bytes of the records. Any bytes of any length may be handed in, in any order of calls: a function reads and writes its slices, at most to their lengths, and nothing
@@ -18,12 +18,13 @@
 extern "C" {
 #endif
 
-/* Lengths. Those of the records are exact, those of the spaces the least; the space of a saved state is what any state needs at most. */
+/* Lengths. Those of the records are exact, those of the spaces the least; the space of a saved state is what any state needs at most. That of bounds is what hda_advance_bounds fills. */
 #define HDA_DEVICE_BYTES 749
 #define HDA_HOST_BYTES 16
 #define HDA_LISTS_BYTES 69632
 #define HDA_QUEUES_BYTES 4096
 #define HDA_STATE_BYTES_MAX 70380
+#define HDA_BOUNDS_BYTES 32
 
 /* Of a take as a WAV file: its header, and frames behind the header at most. */
 #define HDA_WAV_HEADER_BYTES 44
@@ -44,8 +45,9 @@ extern "C" {
 #define HDA_ODD_FRAMES 11  /* hda_feed, hda_pull: length no multiple of 4 */
 #define HDA_LATENCY 12     /* hda_set_downstream: above 14,336 or no multiple of 4 */
 #define HDA_WAV 13         /* hda_wav_write: a rate that the box does not have, frames of no multiple of 4 bytes or too many; hda_wav_read: not a file that hda_wav_write makes */
-#define HDA_SHORT_SPACE 14 /* hda_wav_write, hda_wav_read: space for the result too short */
+#define HDA_SHORT_SPACE 14 /* hda_wav_write, hda_wav_read: space for the result too short; hda_advance_bounds: that, or scratch space */
 #define HDA_CROWDED 20     /* hda_restore: positions fewer than 4 bytes apart, or the last with the stream's descriptor offset above what was submitted */
+#define HDA_REVERSED 21    /* hda_advance_bounds: the shortest time is longer than the longest */
 
 /* Every function returns one number, which these take apart; hda_wav_write and hda_wav_read have hda_number and two of their own. */
 
@@ -58,7 +60,7 @@ static inline int hda_level(uint64_t reply) { return (int)(reply >> 8 & 1); }
 /* Whether a message (MSI) is to be sent now: hda_message_address and hda_message_data of the device record as the call left it. */
 static inline int hda_sends_message(uint64_t reply) { return (int)(reply >> 9 & 1); }
 
-/* Frames moved (hda_feed, hda_pull), bytes written (hda_save), or the register (hda_config_read); else 0. */
+/* Frames moved (hda_feed, hda_pull), bytes written (hda_save, hda_advance_bounds), or the register (hda_config_read); else 0. */
 static inline uint32_t hda_value(uint64_t reply) { return (uint32_t)(reply >> 32); }
 
 static inline uint64_t hda_message_address(const uint8_t device[HDA_DEVICE_BYTES])
@@ -104,6 +106,33 @@ static inline uint64_t hda_deferred(const uint8_t device[HDA_DEVICE_BYTES], unsi
     return billionths / 1000000000;
 }
 
+/* The bytes that stream 0 or 1 has submitted since it was reset: taken for the guest by a capture, or put into the queue by a playback. */
+static inline uint64_t hda_submitted(const uint8_t device[HDA_DEVICE_BYTES], unsigned stream)
+{
+    uint64_t bytes = 0;
+    for (unsigned i = 8; stream <= 1 && i-- > 0;)
+        bytes = bytes << 8 | device[680 + 34 * stream + 6 + i];
+    return bytes;
+}
+
+/* What hda_advance_bounds put into `into` for stream 0 or 1: the lowest and the highest count of submitted bytes. Less hda_submitted they are what an hda_advance moves at least and at
+ * most. */
+static inline uint64_t hda_lowest(const uint8_t into[HDA_BOUNDS_BYTES], unsigned stream)
+{
+    uint64_t bytes = 0;
+    for (unsigned i = 8; stream <= 1 && i-- > 0;)
+        bytes = bytes << 8 | into[16 * stream + i];
+    return bytes;
+}
+
+static inline uint64_t hda_highest(const uint8_t into[HDA_BOUNDS_BYTES], unsigned stream)
+{
+    uint64_t bytes = 0;
+    for (unsigned i = 8; stream <= 1 && i-- > 0;)
+        bytes = bytes << 8 | into[16 * stream + 8 + i];
+    return bytes;
+}
+
 /* Calls that make a record, whatever its bytes were before. HDA_LENT_SPACE for short lists or queues, then HDA_STATE for another length of the record. */
 
 /* A new device. A microphone other than 0 is there. */
@@ -117,6 +146,15 @@ uint64_t hda_host_new(uint8_t *host, size_t host_length, const uint8_t *queues, 
 /* `nanos` nanoseconds of unpaused time pass: the clock runs, waiting commands are carried out, running streams move what is due. */
 uint64_t hda_advance(uint8_t *device, size_t device_length, uint8_t *host, size_t host_length, uint8_t *lists, size_t lists_length, uint8_t *queues,
                      size_t queues_length, uint8_t *memory, size_t memory_length, uint64_t nanos);
+
+/* Between which counts the streams' submitted bytes end where hda_advance is called with some whole number of nanoseconds from `shortest` to `longest`, and every opening succeeds: the
+ * lowest and the highest into the first HDA_BOUNDS_BYTES of `into`, read by hda_lowest and hda_highest; the rest stays. Each is reached by some time between, and none ends outside, also where a transfer
+ * fails. Nothing of device, host end, lists, queues and memory changes. HDA_REVERSED, then HDA_SHORT_SPACE where scratch lists or queues have fewer bytes than such spaces need, scratch memory fewer than
+ * `memory`, or `into` fewer than HDA_BOUNDS_BYTES. What the scratch holds before does not matter; afterwards all of it is 0. A refusal leaves scratch and `into` as they were. */
+uint64_t hda_advance_bounds(const uint8_t *device, size_t device_length, const uint8_t *host, size_t host_length, const uint8_t *lists, size_t lists_length,
+                            const uint8_t *queues, size_t queues_length, const uint8_t *memory, size_t memory_length, uint64_t shortest, uint64_t longest,
+                            uint8_t *scratch_lists, size_t scratch_lists_length, uint8_t *scratch_queues, size_t scratch_queues_length, uint8_t *scratch_memory,
+                            size_t scratch_memory_length, uint8_t *into, size_t into_length);
 
 /* Registers from `offset` on into all of `into`; what is no register reads 0. */
 uint64_t hda_read(const uint8_t *device, size_t device_length, const uint8_t *host, size_t host_length, const uint8_t *lists, size_t lists_length,

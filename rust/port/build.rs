@@ -1,4 +1,4 @@
-//! Links the proved device, which `rt staticlib port` builds.
+//! Links the proved device, which `tools/device` builds.
 use std::{env, path::PathBuf};
 
 fn main() {

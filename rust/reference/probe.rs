@@ -64,4 +64,16 @@ impl Hda {
         (stream.submitted, stream.consumed) = (submitted, consumed);
         stream.completions = positions.iter().copied().collect();
     }
+
+    /// Gives another device all that this one holds. Guest memory and what the other is wired to stay its own: host streams that are open here are opened there, anew.
+    pub fn probe_copy_to(&self, other: &mut Self) {
+        (other.microphone, other.paused, other.interrupt_asserted) = (self.microphone, self.paused, self.interrupt_asserted);
+        (other.config, other.regs, other.responses) = (self.config, self.regs, self.responses);
+        (other.codec, other.streams) = (self.codec.clone(), self.streams.clone());
+        (other.wall_ticks, other.wall_fraction) = (self.wall_ticks, self.wall_fraction);
+        // The harness's host opens a stream of any format alike.
+        let format = Self::format(0x0011).expect("48,000 frames a second");
+        other.capture = self.capture.as_ref().map(|_| other.host.open_capture(format).expect("the other host opens"));
+        other.playback = self.playback.as_ref().map(|_| other.host.open_playback(format).expect("the other host opens"));
+    }
 }

@@ -1,18 +1,21 @@
 /* Calls every function of include/hda.h from C and checks a few answers: frames played and captured, a message sent, openings refused by a write and by time, a state saved and restored, one with a crowded
- * list refused and taken with the list emptied, slices of length 0 at NULL, a stall that is caught up, the rate of every format word, frames written as a WAV file and read back, its header changed
- * byte by byte. */
+ * list refused and taken with the list emptied, slices of length 0 at NULL, a stall that is caught up, the counts between which a timer with jitter ends, the rate of every format word, frames written as a WAV
+ * file and read back, its header changed byte by byte. */
 #include "hda.h"
 #include <stdio.h>
 #include <string.h>
 
 static uint8_t device[HDA_DEVICE_BYTES], host[HDA_HOST_BYTES], lists[HDA_LISTS_BYTES], queues[HDA_QUEUES_BYTES], memory[65536];
 static uint8_t state[HDA_STATE_BYTES_MAX];
+/* Scratch of hda_advance_bounds, each part longer than it must be. */
+static uint8_t more_lists[HDA_LISTS_BYTES + 3], more_queues[HDA_QUEUES_BYTES + 3], more_memory[sizeof memory + 3];
 
 #define RECORDS device, sizeof device, host, sizeof host, lists, sizeof lists, queues, sizeof queues
 #define HOST host, sizeof host, queues, sizeof queues
 #define LISTS lists, sizeof lists
 #define QUEUES queues, sizeof queues
 #define MEMORY memory, sizeof memory
+#define SCRATCH more_lists, sizeof more_lists, more_queues, sizeof more_queues, more_memory, sizeof more_memory
 #define NOTHING NULL, 0
 
 static int checks, failures;
@@ -318,6 +321,141 @@ static int untouched(const uint8_t *bytes, size_t first, size_t end)
     return 1;
 }
 
+/* Whether bytes are all 0. */
+static int zero(const uint8_t *bytes, size_t length)
+{
+    for (size_t i = 0; i < length; i++)
+        if (bytes[i] != 0)
+            return 0;
+    return 1;
+}
+
+static void lay_scratch(void)
+{
+    memset(more_lists, 0xee, sizeof more_lists);
+    memset(more_queues, 0xee, sizeof more_queues);
+    memset(more_memory, 0xee, sizeof more_memory);
+}
+
+static int scratch_untouched(void)
+{
+    return untouched(more_lists, 0, sizeof more_lists) && untouched(more_queues, 0, sizeof more_queues) && untouched(more_memory, 0, sizeof more_memory);
+}
+
+static int scratch_zero(void)
+{
+    return zero(more_lists, sizeof more_lists) && zero(more_queues, sizeof more_queues) && zero(more_memory, sizeof more_memory);
+}
+
+/* A timer that is late or early by half a millisecond: 24 to 72 frames at 48,000, of a capture and of a playback. Then a playback whose longest time ends lowest, one whose queue fills, and openings that fail,
+ * which the call takes as ones that succeed. */
+static void jittery(void)
+{
+    static uint8_t memory_before[sizeof memory], lists_before[HDA_LISTS_BYTES];
+    uint8_t device_before[HDA_DEVICE_BYTES], host_before[HDA_HOST_BYTES], queues_before[HDA_QUEUES_BYTES];
+    uint8_t on[1] = {6}, into[HDA_BOUNDS_BYTES + 3], frames[192] = {0};
+    CHECK(hda_new(device, sizeof device, lists, sizeof lists, queues, sizeof queues, 1), HDA_DONE);
+    CHECK(hda_host_new(HOST), HDA_DONE);
+    CHECK(hda_number(hda_config_write(RECORDS, MEMORY, 1, 0, on, 1)), HDA_DONE);
+    write_register(0x08, 1, 1);
+    start(0, 0x400, 0x2000);
+    start(1, 0x500, 0x1000);
+    CHECK(hda_value(hda_feed(HOST, frames, sizeof frames)), 48);
+    CHECK(hda_number(hda_advance(RECORDS, MEMORY, 1000000)), HDA_DONE);
+    CHECK(hda_submitted(device, 0), 192);
+    CHECK(hda_submitted(device, 1), 192);
+    CHECK(hda_submitted(device, 2), 0);
+    memset(lists, 0xab, sizeof lists);
+    memcpy(device_before, device, sizeof device);
+    memcpy(host_before, host, sizeof host);
+    memcpy(lists_before, lists, sizeof lists);
+    memcpy(queues_before, queues, sizeof queues);
+    memcpy(memory_before, memory, sizeof memory);
+    memset(into, 0xee, sizeof into);
+    lay_scratch();
+    uint64_t reply = hda_advance_bounds(RECORDS, MEMORY, 500000, 1500000, SCRATCH, into, sizeof into);
+    CHECK(hda_number(reply), HDA_DONE);
+    CHECK(hda_value(reply), HDA_BOUNDS_BYTES);
+    CHECK(hda_sends_message(reply), 0);
+    for (unsigned stream = 0; stream < 2; stream++) {
+        CHECK(hda_lowest(into, stream), 192 + 96);
+        CHECK(hda_highest(into, stream), 192 + 288);
+        CHECK(stands(into, 16 * stream, 8), 192 + 96);
+        CHECK(stands(into, 16 * stream + 8, 8), 192 + 288);
+    }
+    CHECK(hda_lowest(into, 2), 0);
+    CHECK(hda_highest(into, 2), 0);
+    CHECK(untouched(into, HDA_BOUNDS_BYTES, sizeof into), 1);
+    CHECK(scratch_zero(), 1);
+
+    /* Refusals in their order: lent space, then records, then the times, then each space that is a byte too short. */
+    memset(into, 0xee, sizeof into);
+    lay_scratch();
+    const size_t lists_least = HDA_LISTS_BYTES, queues_least = HDA_QUEUES_BYTES, memory_least = sizeof memory;
+    const uint64_t level = hda_config_read(RECORDS, 64);
+    CHECK(hda_advance_bounds(RECORDS, MEMORY, 2, 1, SCRATCH, into, sizeof into), level | HDA_REVERSED);
+    CHECK(hda_advance_bounds(RECORDS, MEMORY, UINT64_MAX, 0, NOTHING, NOTHING, NOTHING, NOTHING), level | HDA_REVERSED);
+    CHECK(hda_advance_bounds(RECORDS, MEMORY, 1, 2, more_lists, lists_least - 1, more_queues, queues_least, more_memory, memory_least, into, sizeof into), level | HDA_SHORT_SPACE);
+    CHECK(hda_advance_bounds(RECORDS, MEMORY, 1, 2, more_lists, lists_least, more_queues, queues_least - 1, more_memory, memory_least, into, sizeof into), level | HDA_SHORT_SPACE);
+    CHECK(hda_advance_bounds(RECORDS, MEMORY, 1, 2, more_lists, lists_least, more_queues, queues_least, more_memory, memory_least - 1, into, sizeof into), level | HDA_SHORT_SPACE);
+    CHECK(hda_advance_bounds(RECORDS, MEMORY, 1, 2, SCRATCH, into, HDA_BOUNDS_BYTES - 1), level | HDA_SHORT_SPACE);
+    CHECK(hda_number(hda_advance_bounds(device, sizeof device, host, sizeof host, lists, sizeof lists - 1, QUEUES, MEMORY, 2, 1, SCRATCH, into, sizeof into)), HDA_LENT_SPACE);
+    CHECK(hda_number(hda_advance_bounds(device, sizeof device, host, sizeof host, LISTS, queues, sizeof queues - 1, MEMORY, 2, 1, SCRATCH, into, sizeof into)), HDA_LENT_SPACE);
+    CHECK(hda_advance_bounds(device, sizeof device - 1, host, sizeof host, LISTS, QUEUES, MEMORY, 2, 1, SCRATCH, into, sizeof into), HDA_STATE);
+    CHECK(hda_advance_bounds(device, sizeof device, host, sizeof host - 1, LISTS, QUEUES, MEMORY, 2, 1, SCRATCH, into, sizeof into), HDA_STATE);
+    host[2] = 2;
+    CHECK(hda_number(hda_advance_bounds(RECORDS, MEMORY, 2, 1, SCRATCH, into, sizeof into)), HDA_STATE);
+    host[2] = 0;
+    CHECK(untouched(into, 0, sizeof into), 1);
+    CHECK(scratch_untouched(), 1);
+
+    /* The least of all spaces serves. What is lent beyond stays as it was. */
+    CHECK(hda_value(hda_advance_bounds(RECORDS, MEMORY, 1, 2, more_lists, lists_least, more_queues, queues_least, more_memory, memory_least, into, HDA_BOUNDS_BYTES)), HDA_BOUNDS_BYTES);
+    CHECK(untouched(more_lists, lists_least, sizeof more_lists), 1);
+    CHECK(untouched(more_queues, queues_least, sizeof more_queues), 1);
+    CHECK(untouched(more_memory, memory_least, sizeof more_memory), 1);
+    CHECK(zero(more_lists, lists_least) && zero(more_queues, queues_least) && zero(more_memory, memory_least), 1);
+    CHECK(hda_lowest(into, 1), 192);
+    CHECK(hda_highest(into, 1), 192);
+    /* Nobody pulls, so that the queue's 512 frames are the most. A capture that finds nothing goes on with silence, for 8,192 frames. */
+    CHECK(hda_number(hda_advance_bounds(RECORDS, MEMORY, 0, UINT64_MAX, SCRATCH, into, sizeof into)), HDA_DONE);
+    CHECK(hda_lowest(into, 0), 192);
+    CHECK(hda_highest(into, 0), 192 + 4 * 8192);
+    CHECK(hda_lowest(into, 1), 192);
+    CHECK(hda_highest(into, 1), 2048);
+    CHECK(scratch_zero(), 1);
+    CHECK(memcmp(device_before, device, sizeof device), 0);
+    CHECK(memcmp(host_before, host, sizeof host), 0);
+    CHECK(memcmp(lists_before, lists, sizeof lists), 0);
+    CHECK(memcmp(queues_before, queues, sizeof queues), 0);
+    CHECK(memcmp(memory_before, memory, sizeof memory), 0);
+
+    /* The playback's buffer, which it has read 192 bytes of, now ends 40 bytes behind where it stands: an eleventh frame makes the transfer fail, and none counts. */
+    uint64_t address = sizeof memory - 192 - 40;
+    for (unsigned i = 0; i < 8; i++)
+        memory[0x500 + i] = (uint8_t)(address >> 8 * i);
+    CHECK(hda_number(hda_advance_bounds(RECORDS, MEMORY, 500000, 500000, SCRATCH, into, sizeof into)), HDA_DONE);
+    CHECK(hda_highest(into, 1), 192);
+    CHECK(hda_number(hda_advance_bounds(RECORDS, MEMORY, 100000, 500000, SCRATCH, into, sizeof into)), HDA_DONE);
+    CHECK(hda_lowest(into, 1), 192);
+    CHECK(hda_highest(into, 1), 192 + 40);
+
+    /* The host end is made anew and refuses to open. */
+    CHECK(hda_host_new(HOST), HDA_DONE);
+    CHECK(hda_number(hda_set_playback_fails(HOST, 1)), HDA_DONE);
+    CHECK(hda_number(hda_set_capture_fails(HOST, 1)), HDA_DONE);
+    CHECK(hda_number(hda_advance_bounds(RECORDS, MEMORY, 100000, 100000, SCRATCH, into, sizeof into)), HDA_DONE);
+    CHECK(hda_lowest(into, 0), 192 + 16);
+    CHECK(hda_lowest(into, 1), 192 + 16);
+    CHECK(host[0] & host[1], 1);
+    CHECK(hda_number(hda_advance(RECORDS, MEMORY, 100000)), HDA_HOST_CLOSED);
+    CHECK(hda_submitted(device, 0), 192);
+
+    /* A guest with no memory needs no scratch for it. */
+    CHECK(hda_number(hda_advance_bounds(RECORDS, NOTHING, 0, 1000000, more_lists, sizeof more_lists, more_queues, sizeof more_queues, NOTHING, into, sizeof into)), HDA_DONE);
+    CHECK(hda_highest(into, 0), 192);
+}
+
 /* The low `width` bytes of a value into bytes from `place` on, lowest first. */
 static void lay(uint8_t *bytes, size_t place, size_t width, uint64_t value)
 {
@@ -470,6 +608,7 @@ static void nothing(void)
         hda_new(device, sizeof device, NOTHING, NOTHING, 1),
         hda_host_new(host, sizeof host, NOTHING),
         hda_advance(NOTHING, NOTHING, NOTHING, NOTHING, NOTHING, 1),
+        hda_advance_bounds(NOTHING, NOTHING, NOTHING, NOTHING, NOTHING, 2, 1, NOTHING, NOTHING, NOTHING, NOTHING),
         hda_read(NOTHING, NOTHING, NOTHING, NOTHING, 0, NOTHING),
         hda_write(NOTHING, NOTHING, NOTHING, NOTHING, NOTHING, 0, NOTHING),
         hda_bar_read(NOTHING, NOTHING, NOTHING, NOTHING, 0, 0, NOTHING),
@@ -491,6 +630,7 @@ static void nothing(void)
         hda_new(NOTHING, LISTS, QUEUES, 1),
         hda_host_new(NOTHING, QUEUES),
         hda_advance(NOTHING, NOTHING, LISTS, QUEUES, MEMORY, 1),
+        hda_advance_bounds(NOTHING, NOTHING, LISTS, QUEUES, MEMORY, 2, 1, NOTHING, NOTHING, NOTHING, NOTHING),
         hda_read(NOTHING, NOTHING, LISTS, QUEUES, 0, NOTHING),
         hda_write(NOTHING, NOTHING, LISTS, QUEUES, MEMORY, 0, NOTHING),
         hda_bar_read(NOTHING, NOTHING, LISTS, QUEUES, 0, 0, NOTHING),
@@ -524,6 +664,7 @@ int main(void)
     empty();
     exchanged();
     stalled();
+    jittery();
     rates();
     crowded();
     wav_written();

@@ -1,15 +1,13 @@
 // The device's C functions (include/hda.h, docs/LAYOUT.md). A slice is a pointer and a length; any bytes of any lengths may come in any order. Each function is the call of
-// crates port_device, port_reads, port_host, port_jitter and port_wav by its C name. Its contract is the outcome that crate lent_calls gives for that call, the very definition that demand 3 on bytes steps by;
-// bytes that a function is not handed are `none` there. A flag is any number, and all but 0 is true. The last two are handed no device and no host end, and are no calls of demand 3.
+// crates port_device, port_reads, port_host and port_wav by its C name. Its contract is the outcome that crate lent_calls gives for that call, the very definition that demand 3 on bytes steps by; bytes
+// that a function is not handed are `none` there. A flag is any number, and all but 0 is true. The last two are handed no device and no host end, and are no calls of demand 3.
 ghost use mathlib.Core.Path.{_≡_};
 ghost use mathlib.Core.Bool.{true, false, not};
 ghost use lib.Dec.{eqb};
-ghost use Rattle.calls.specs.Calls.{advance, read, write, barRead, barWrite, configRead, configWrite, pinChange, pause, feed, pull, playbackFails, captureFails, downstream, save, restore, advanceBounds};
+ghost use Rattle.calls.specs.Calls.{advance, read, write, barRead, barWrite, configRead, configWrite, pinChange, pause, feed, pull, playbackFails, captureFails, downstream, save, restore};
 ghost use Rattle.port_device.specs.Calls.{lent, returned, made, none};
 ghost use Rattle.port_reads.specs.Reads.{shown};
 ghost use Rattle.port_host.specs.Calls.{kept, fedOut, pulledOut};
-ghost use Rattle.jitter.specs.Calls.{scratch};
-ghost use Rattle.port_jitter.specs.Calls.{boundedOut};
 ghost use Rattle.lent_calls.specs.Calls.{new, hostNew, on, callOf};
 ghost use Rattle.port_wav.specs.Calls.{filledOut, writeOf, readOf};
 
@@ -207,38 +205,6 @@ pub extern "C" fn hda_restore_emptied(
     ensures { λ r. ⌜ returned r (lent (now (device .exit)) (now (host .exit)) (now (lists .exit)) (now (queues .entry)) none) ≡ callOf (on (restore false (now (state .entry)))) (lent (now (device .entry)) (now (host .entry)) (now (lists .entry)) (now (queues .entry)) none) ⌝ }
 {
     port_device::restore(false, device, host, lists, queues, state)
-}
-
-// The lowest and the highest submitted count that an advance by any time from `shortest` to `longest` can leave of each stream, worked out on the scratch; the value returned is the result's length.
-#[no_mangle]
-pub extern "C" fn hda_advance_bounds(
-    device: &[u8],
-    host: &[u8],
-    lists: &[u8],
-    queues: &[u8],
-    memory: &[u8],
-    shortest: u64,
-    longest: u64,
-    scratch_lists: &mut [u8],
-    scratch_queues: &mut [u8],
-    scratch_memory: &mut [u8],
-    into: &mut [u8],
-) -> u64
-    ensures { λ r. ⌜ boundedOut r (scratch (now («scratch_lists» .exit)) (now («scratch_queues» .exit)) (now («scratch_memory» .exit))) (now (into .exit)) ≡ callOf (on (advanceBounds shortest longest (now («scratch_lists» .entry)) (now («scratch_queues» .entry)) (now («scratch_memory» .entry)) (now (into .entry)))) (lent (now (device .entry)) (now (host .entry)) (now (lists .entry)) (now (queues .entry)) (now (memory .entry))) ⌝ }
-{
-    port_jitter::bounds(
-        device,
-        host,
-        lists,
-        queues,
-        memory,
-        shortest,
-        longest,
-        scratch_lists,
-        scratch_queues,
-        scratch_memory,
-        into,
-    )
 }
 
 // Frames into the queue of the capture stream; the value returned is their count.

@@ -3,7 +3,7 @@
 //! Two things differ for the hypervisor. The device calls no host backend: the host's sound driver feeds, pulls and sets through this type ([`Hda::feed`],
 //! [`Hda::pull`] and the three settings). And guest memory is one region from address 0 on, lent whole to each call.
 use port::{Answer, number};
-pub use port::{Machine, Stream};
+pub use port::{Bounds, Machine, Scratch, Stream};
 use reference::audio::AudioClock;
 use reference::{BarInfo, BarKind, BusDevice, DeviceError, GuestMemory, IrqLine, MsiMessage, MsiSink, PciDevice, Snapshot};
 use std::sync::Arc;
@@ -24,7 +24,7 @@ impl Hda {
     ///
     /// # Safety
     ///
-    /// The device has guest memory as a `&mut [u8]` while [`Hda::advance`], [`Hda::pin_presence_changed`] or a trait's `write`, `config_write` or `bar_write` runs.
+    /// The device has guest memory as a `&mut [u8]` while [`Hda::advance`], [`Hda::advance_bounds`], [`Hda::pin_presence_changed`] or a trait's `write`, `config_write` or `bar_write` runs.
     /// Meanwhile nothing else in this process may read or write that memory, and nothing outside of it may write there: no virtual processor, no other process
     /// that has it mapped.
     pub unsafe fn new(
@@ -48,14 +48,18 @@ impl Hda {
         &self.machine
     }
 
-    /// Makes a call that is lent guest memory.
+    /// Makes a call that is lent guest memory, and delivers its interrupts.
     fn with_memory(&mut self, call: impl FnOnce(&mut Machine, &mut [u8]) -> Answer) -> Answer {
+        let answer = self.lend_memory(call);
+        self.deliver(answer)
+    }
+
+    fn lend_memory<T>(&mut self, call: impl FnOnce(&mut Machine, &mut [u8]) -> T) -> T {
         let length = self.memory.find_region(GuestAddress(0)).map_or(0, |region| region.len() as usize);
         let start = self.memory.get_host_address(GuestAddress(0)).expect("new has found the region");
         // The mapping has that length and lives as long as self.memory; that nobody else uses it now is what `new` asks for.
         let memory = unsafe { std::slice::from_raw_parts_mut(start, length) };
-        let answer = call(&mut self.machine, memory);
-        self.deliver(answer)
+        call(&mut self.machine, memory)
     }
 
     /// Drives the interrupt line, and sends the message if there is one.
@@ -71,8 +75,19 @@ impl Hda {
 
     /// Service a machine timer interval. Longer than 2^64 - 1 nanoseconds counts as that.
     pub fn advance(&mut self, elapsed: Duration) -> Result<(), DeviceError> {
-        let nanos = u64::try_from(elapsed.as_nanos()).unwrap_or(u64::MAX);
-        result(self.with_memory(|machine, memory| machine.advance(memory, nanos))).map(drop)
+        result(self.with_memory(|machine, memory| machine.advance(memory, nanoseconds(elapsed)))).map(drop)
+    }
+
+    /// Between which counts of submitted bytes each stream ends after a timer interval that is known no better, every opening taken as one that succeeds. Nothing of the device, its interrupts and guest memory
+    /// changes. The scratch needs as much memory as the guest has.
+    pub fn advance_bounds(
+        &mut self,
+        shortest: Duration,
+        longest: Duration,
+        scratch: &mut Scratch,
+    ) -> Result<[Bounds; Stream::EACH.len()], DeviceError> {
+        let range = (nanoseconds(shortest), nanoseconds(longest));
+        self.lend_memory(|machine, memory| machine.advance_bounds(memory, range.0, range.1, scratch)).map_err(error)
     }
 
     /// Freeze DMA, position and the wall clock.
@@ -122,17 +137,27 @@ impl Hda {
     }
 }
 
+/// Longer than 2^64 - 1 nanoseconds counts as that.
+fn nanoseconds(time: Duration) -> u64 {
+    u64::try_from(time.as_nanos()).unwrap_or(u64::MAX)
+}
+
 /// An answer whose number is 0, or the number as the hypervisor's error.
 fn result(answer: Answer) -> Result<Answer, DeviceError> {
-    let error = match answer.number {
-        number::DONE => return Ok(answer),
+    if answer.number == number::DONE { Ok(answer) } else { Err(error(answer.number)) }
+}
+
+fn error(number: u8) -> DeviceError {
+    let error = match number {
         number::HOST_CLOSED => "host closed",
         number::ODD_FRAMES => "no whole frames",
         number::LATENCY => "latency out of range",
+        number::REVERSED => "shortest time above the longest",
+        number::SHORT_SPACE => "scratch shorter than guest memory",
         // 9 and 10: a machine that only calls have changed meets every condition and has its lengths.
         _ => "invalid HDA device",
     };
-    Err(DeviceError::Other(error.into()))
+    DeviceError::Other(error.into())
 }
 
 /// The error of a refused state, as the Rust has it; of its format word the number does not tell which. Crowded lists the Rust takes.

@@ -1,6 +1,6 @@
 //! One device exchanged for the other: the same driver on the Rust's `Hda` and on the drop-in, through the hypervisor's traits. All that the guest, the host and the
 //! wires see must be the same.
-use dropin::Stream;
+use dropin::{Bounds, Scratch, Stream};
 use reference::audio::{AudioClock, AudioFormat, CaptureSource, HostAudio, PlaybackSink};
 use reference::{BusDevice, DeviceError, GuestMemory, IrqLine, MsiMessage, MsiSink, PciDevice, Snapshot};
 use std::collections::VecDeque;
@@ -380,6 +380,38 @@ fn crowded_completions_of_the_rust_are_emptied() {
     assert!(to.save_state().unwrap() == spaced);
     to.restore_state(&spaced).unwrap();
     assert!(to.save_state().unwrap() == spaced);
+}
+
+/// The drop-in says between which counts a timer with jitter ends, and nothing of it shows.
+#[test]
+fn a_timer_with_jitter() {
+    let (mut device, memory, wires) = made(proved);
+    memory.write_slice(&[0, 0x10, 0, 0, 0, 0, 0, 0, 0, 4, 0, 0, 1, 0, 0, 0], GuestAddress(0)).unwrap();
+    device.config_write(1, 0, &[6]);
+    for (offset, bytes) in
+        [(0x08, [1, 0, 0, 0]), (0x20, [3, 0, 0, 0xc0]), (0xa8, [0, 4, 0, 0]), (0xb2, [0x11, 0, 0, 0]), (0xa0, [6, 0, 0, 0])]
+    {
+        device.write(offset, &bytes[..if offset == 0xb2 { 2 } else { 4 }]);
+    }
+    let half = Duration::from_micros(500);
+    let seen = |device: &dropin::Hda| {
+        let mut bytes = vec![0; MEMORY];
+        memory.read_slice(&mut bytes, GuestAddress(0)).unwrap();
+        (device.save_state().unwrap(), bytes, wires.0.lock().unwrap().0)
+    };
+    let before = seen(&device);
+    let mut scratch = Scratch::new(MEMORY);
+    let bounds = device.advance_bounds(half, 3 * half, &mut scratch).unwrap();
+    assert_eq!(bounds[Stream::Playback.index()], Bounds { lowest: 96, highest: 288 });
+    let most = device.advance_bounds(half, Duration::MAX, &mut scratch).unwrap();
+    assert_eq!(most[Stream::Playback.index()], Bounds { lowest: 96, highest: 2048 });
+    let reversed = format!("{:?}", device.advance_bounds(half, Duration::ZERO, &mut scratch));
+    assert_eq!(reversed, "Err(Other(\"shortest time above the longest\"))");
+    let short = format!("{:?}", device.advance_bounds(half, half, &mut Scratch::new(MEMORY - 1)));
+    assert_eq!(short, "Err(Other(\"scratch shorter than guest memory\"))");
+    assert!(seen(&device) == before);
+    device.advance(2 * half).unwrap();
+    assert_eq!(device.machine().submitted(Stream::Playback), 192);
 }
 
 #[test]

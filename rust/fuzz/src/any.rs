@@ -1,5 +1,6 @@
 //! Any call on any bytes, for tests of what calls refuse: records of any length and content, spaces of any length. Those on WAV files, which are handed none of
 //! these, are in [`crate::takes`].
+use crate::bounds::Space;
 use crate::states::Crowded;
 use port::layout::{DEVICE, HOST, LIST, LISTS, MAX_DOWNSTREAM, POSITIONS, QUEUE, QUEUES, STATE, STREAMS, device, get, host, stream};
 use port::{Machine, Reply, calls, number};
@@ -120,6 +121,8 @@ pub enum Call {
     New(bool),
     HostNew,
     Advance(u64),
+    /// Shortest and longest time. The scratch that it needs is made for it, and looked at; [`crate::bounds`] lends it any other.
+    AdvanceBounds(u64, u64),
     Read(u64),
     Write(u64),
     BarRead(u32, u64),
@@ -169,10 +172,11 @@ fn is_same_from(before: &[u8], after: &[u8], place: usize) -> bool {
 
 impl Call {
     /// Every call once.
-    pub const EACH: [Self; 19] = [
+    pub const EACH: [Self; 20] = [
         Self::New(true),
         Self::HostNew,
         Self::Advance(1_000_000),
+        Self::AdvanceBounds(990_000, 1_010_000),
         Self::Read(0),
         Self::Write(8),
         Self::BarRead(0, 0),
@@ -221,7 +225,7 @@ impl Call {
             Self::Write(_) | Self::BarWrite(..) => Changes { device: true, host: true, memory: true, ..none },
             Self::ConfigRead(_) => none,
             Self::ConfigWrite(..) | Self::PinPresenceChanged(_) => Changes { device: true, memory: true, ..none },
-            Self::Save => Changes { buffer: reply.value() as usize, ..none },
+            Self::Save | Self::AdvanceBounds(..) => Changes { buffer: reply.value() as usize, ..none },
             Self::Restore | Self::RestoreEmptied => Changes { device: true, host: true, lists: true, ..none },
             Self::Feed => Changes { host: true, queues: true, ..none },
             Self::Pull => Changes { host: true, queues: true, buffer: 4 * reply.value() as usize, ..none },
@@ -241,6 +245,7 @@ impl Call {
             Self::New(microphone) => calls::new(device, lists, queues, microphone),
             Self::HostNew => calls::host_new(host, queues),
             Self::Advance(nanos) => calls::advance(device, host, lists, queues, memory, nanos),
+            Self::AdvanceBounds(shortest, longest) => ask_with_scratch(lent, shortest, longest),
             Self::Read(offset) => calls::read(device, host, lists, queues, offset, buffer),
             Self::Write(offset) => calls::write(device, host, lists, queues, memory, offset, buffer),
             Self::BarRead(bar, offset) => calls::bar_read(device, host, lists, queues, bar, offset, buffer),
@@ -259,4 +264,14 @@ impl Call {
             Self::SetDownstream(bytes) => calls::set_downstream(host, queues, bytes),
         }
     }
+}
+
+/// The call on a timer with jitter, with just the scratch that it needs; what it leaves of that is looked at here.
+fn ask_with_scratch(lent: &mut Lent, shortest: u64, longest: u64) -> Reply {
+    let before = Space { into: std::mem::take(&mut lent.buffer), ..Space::enough(lent.memory.len()) };
+    let mut space = before.clone();
+    let reply = space.ask(lent, shortest, longest);
+    assert!(space.has_scratch_of(&before, reply), "scratch after {}", reply.number());
+    lent.buffer = space.into;
+    reply
 }

@@ -3,26 +3,29 @@
 //! After each call: the number is one that document 01 gives here, 9 and 10 exactly where its conditions say so; a refusal has changed no byte, and any call only what
 //! docs/LAYOUT.md says; a machine that a call accepted is still valid; a restored machine is the one that document 01 says, or T-09 for crowded lists. After a new device and
 //! after an accepted state no list gets crowded, whatever is called, and what is then saved is not refused as such. A stall is over as soon as T-10 says, and no frame of it
-//! is lost. A call on a take returns and leaves exactly what T-02 says. Round R of a seed is round 0 of seed + R. That a call returns is seen by the run's end.
+//! is lost. A timer with jitter ends between just the counts that T-13 says. A call on a take returns and leaves exactly what T-02 says. Round R of a seed is round 0 of seed + R. That a call returns is seen by the run's end.
 mod files;
 mod running;
 mod stored;
 
 use fuzz::any::{Call, Handed, Lent, is_valid_downstream};
 use fuzz::catchup::Tally;
-use fuzz::{stalled, states, takes};
-use port::layout::{DEVICE, HOST, LIST, LISTS, MAX_STATE, POSITIONS, QUEUES, STATE, STREAMS, device, get, host, put, stream};
+use fuzz::{bounds, jittery, stalled, states, takes};
+use port::layout::{BOUNDS, DEVICE, HOST, LIST, LISTS, MAX_STATE, POSITIONS, QUEUES, STATE, STREAMS, device, get, host, put, stream};
 use port::{Machine, Reply, number};
 use random::Random;
 use std::collections::BTreeMap;
 use std::process::ExitCode;
 
-/// Calls of a round on a machine, on one that runs, and on takes; its machines in a stall, and the most callbacks of the host of each.
+/// Calls of a round on a machine, on one that runs, and on takes; its machines in a stall, and the most callbacks of the host of each; changes or calls before a machine is asked about a timer with jitter at most,
+/// and mostly the longest range of which it is asked.
 const CALLS: usize = 40;
 const RUNNING: usize = 20;
 const TAKES: usize = 20;
 const STALLED: usize = 2;
 const CALLBACKS: u64 = 40;
+const JITTERY: u64 = 4;
+const JITTER: u64 = 200_000;
 
 fn main() -> ExitCode {
     let words: Vec<Option<u64>> = std::env::args().skip(1).map(|word| word.parse().ok()).collect();
@@ -33,7 +36,7 @@ fn main() -> ExitCode {
     let mut seen = Seen::default();
     for round in 0..rounds {
         let seed = seed.wrapping_add(round);
-        for play in [play, play_running, play_stalled, play_takes] {
+        for play in [play, play_running, play_stalled, play_jittery, play_takes] {
             if let Err(error) = play(seed, &mut seen) {
                 println!("fuzz {seed} 1: {error}");
                 return ExitCode::FAILURE;
@@ -45,6 +48,9 @@ fn main() -> ExitCode {
     }
     println!("{:>9}  positions put into lists that were not crowded, and are not", seen.added);
     for (count, name) in seen.stalls.lines() {
+        println!("{count:>9}  {name}");
+    }
+    for (count, name) in seen.bounds.lines() {
         println!("{count:>9}  {name}");
     }
     println!("{rounds} rounds, {} calls", seen.calls.values().sum::<u64>() + seen.stalls.calls());
@@ -59,6 +65,7 @@ struct Seen {
     /// Positions that calls put into lists that were not crowded.
     added: u64,
     stalls: Tally,
+    bounds: bounds::Tally,
 }
 
 impl Seen {
@@ -102,6 +109,28 @@ fn play_stalled(seed: u64, seen: &mut Seen) -> Result<(), String> {
     for _ in 0..STALLED {
         let most_callbacks = random.between(1, CALLBACKS);
         stalled::play(&mut random, most_callbacks, &mut seen.stalls)?;
+    }
+    Ok(())
+}
+
+/// A round's questions about a timer with jitter: to any bytes, to a machine that runs, and to one whose parts lie over one another. As with takes, their random numbers are others.
+fn play_jittery(seed: u64, seen: &mut Seen) -> Result<(), String> {
+    let mut random = Random::new(seed.rotate_left(16));
+    let mut any = start(&mut random);
+    for _ in 0..random.below(JITTERY) {
+        disturb(&mut random, &mut any);
+    }
+    let mut runs = running::start(&mut random);
+    for _ in 0..random.below(JITTERY) {
+        running::next(&mut random, &mut runs).make(&mut runs);
+    }
+    let mut replies = Vec::new();
+    for lent in [any, runs] {
+        replies.push(jittery::ask(&mut random, &exact(&lent), JITTER, &mut seen.bounds)?);
+    }
+    replies.push(jittery::play(&mut random, &mut seen.bounds)?);
+    for reply in replies {
+        seen.count(format!("AdvanceBounds gave {}", reply.number()));
     }
     Ok(())
 }
@@ -184,7 +213,7 @@ fn check(call: Call, reply: Reply, before: &Lent, after: &Lent) -> Result<(), St
     is(!reply.sends() || handed == Handed::Machine, "a message without a device")?;
     let most = match call {
         Call::Feed | Call::Pull => before.buffer.len() / 4,
-        Call::Save => before.buffer.len(),
+        Call::Save | Call::AdvanceBounds(..) => before.buffer.len(),
         Call::ConfigRead(_) => u32::MAX as usize,
         _ => 0,
     };
@@ -243,6 +272,8 @@ fn expected(call: Call, before: &Lent, reply: Reply) -> u8 {
         Call::Feed | Call::Pull if !before.buffer.len().is_multiple_of(4) => number::ODD_FRAMES,
         Call::SetDownstream(bytes) if !is_valid_downstream(u64::from(bytes)) => number::LATENCY,
         Call::Save if before.buffer.len() < before.saved_bytes() => number::LENT_SPACE,
+        Call::AdvanceBounds(shortest, longest) if shortest > longest => number::REVERSED,
+        Call::AdvanceBounds(..) if before.buffer.len() < BOUNDS => number::SHORT_SPACE,
         _ => call.crowded().and_then(|crowded| states::restored(before, crowded).err()).unwrap_or(number::DONE),
     }
 }

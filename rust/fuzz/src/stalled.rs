@@ -59,7 +59,8 @@ impl Habits {
     }
 }
 
-fn start(random: &mut Random) -> Lent {
+/// A machine before its host comes back.
+pub(crate) fn start(random: &mut Random) -> Lent {
     let mut lent = Lent::of(&Machine::new(random.percent(60)), MEMORY as usize, 0);
     random.fill(&mut lent.memory);
     random.fill(&mut lent.queues);
@@ -80,7 +81,7 @@ fn start(random: &mut Random) -> Lent {
     lent
 }
 
-fn put_register<const N: usize>(record: &mut [u8], offset: u64, value: u64) {
+pub(crate) fn put_register<const N: usize>(record: &mut [u8], offset: u64, value: u64) {
     put::<N>(record, device::REGISTERS + offset as usize, value);
 }
 

@@ -1,7 +1,9 @@
 //! Records that break a condition, bytes that are no records, and spaces that are too short: every field and length in turn, for every call. Document 01's number
 //! comes back (10 before 9), with the level that the record has, and no lent byte changes.
 use fuzz::any::{Call, Handed, Lent};
-use port::layout::{DEVICE, HOST, LIST, LISTS, MAX_DOWNSTREAM, MAX_STATE, POSITIONS, QUEUE, QUEUES, device, get, host, put, stream};
+use port::layout::{
+    BOUNDS, DEVICE, HOST, LIST, LISTS, MAX_DOWNSTREAM, MAX_STATE, POSITIONS, QUEUE, QUEUES, device, get, host, put, stream,
+};
 use port::{Machine, number};
 
 const BILLION: u64 = 1_000_000_000;
@@ -45,7 +47,12 @@ fn lay_stream(record: &mut [u8], lists: &mut [u8], index: usize, consumed: u64, 
 
 /// A machine's bytes with a buffer that suits the call, full of bytes that would show.
 fn lent(machine: &Machine, call: Call) -> Lent {
-    let mut lent = Lent::of(machine, MEMORY, if call == Call::Save { MAX_STATE } else { 8 });
+    let buffer = match call {
+        Call::Save => MAX_STATE,
+        Call::AdvanceBounds(..) => BOUNDS,
+        _ => 8,
+    };
+    let mut lent = Lent::of(machine, MEMORY, buffer);
     lent.memory.fill(0xdd);
     lent.buffer.fill(0xee);
     if call.crowded().is_some() {

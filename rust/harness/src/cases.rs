@@ -1,14 +1,15 @@
 //! Known answers: an op log with expectations, run on the reference, the amended oracle and the port.
 //!
-//! A line `? SIDE WHAT VALUE` is about the call before it. SIDE is `reference`, `amended`, which the port follows, or `both`; WHAT is `number`, `value`, `bytes`, `intx`, `msi`
-//! or a field of the view, such as `capture.submitted` or `register.83`. A line `? parts NAMES` says that the two are the same up to the call
+//! A line `? SIDE WHAT VALUE` is about the call before it. SIDE is `reference`, `amended`, which the port follows, or `both`; WHAT is `number`, `value`, `bytes`, `intx`, `msi`,
+//! a field of the view, such as `capture.submitted` or `register.83`, or after the call `bounds` what it says of a stream, such as `playback.bounds` with the value `0-40`. A line `? parts NAMES` says that the two are the same up to the call
 //! before it and part there, by these differences (joined by `+`). Without such a line they are the same to the end.
 use crate::device::{Amended, Reference};
 use crate::differences::Differences;
 use crate::lockstep::{DEFAULT_MEMORY, Lockstep, run_ops};
 use crate::ops::{Op, execute, hex};
 use crate::ported::Port;
-use crate::side::{Answer, Side};
+use crate::side::{Answer, Direction, Side};
+use port::Bounds;
 
 struct Expectation {
     line: usize,
@@ -82,6 +83,14 @@ fn seen<S: Side>(side: &S, answer: &Answer, what: &str) -> Option<String> {
         "bytes" => hex(&answer.bytes),
         "intx" => u8::from(answer.interrupts.level).to_string(),
         "msi" => messages.len().to_string(),
+        "capture.bounds" => bounds(answer, Direction::Capture)?,
+        "playback.bounds" => bounds(answer, Direction::Playback)?,
         field => side.view().fields().into_iter().find(|(name, _)| name == field)?.1,
     })
+}
+
+/// What a call `bounds` answered of a stream.
+fn bounds(answer: &Answer, direction: Direction) -> Option<String> {
+    let Bounds { lowest, highest } = Bounds::each(answer.bytes.as_slice().try_into().ok()?)[direction.index()];
+    Some(format!("{lowest}-{highest}"))
 }

@@ -158,6 +158,18 @@ macro_rules! rust_side {
                     number($restore_emptied(&mut self.device, state))
                 }
 
+                fn copied(&self) -> Self {
+                    let mut copy = Self::new(true, self.length);
+                    copy.copy_from(self);
+                    copy
+                }
+                fn copy_from(&mut self, other: &Self) {
+                    self.host.let_all_open();
+                    other.device.probe_copy_to(&mut self.device);
+                    self.host.take_after(&other.host);
+                    self.wires.take();
+                    self.memory_mut().copy_from_slice(other.memory());
+                }
                 fn close(&mut self, direction: Direction) {
                     self.device.probe_close(direction.index());
                 }

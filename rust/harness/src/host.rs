@@ -84,6 +84,23 @@ impl HostEnd {
         self.queue(direction).map_or_else(Vec::new, |queue| queue.contents())
     }
 
+    pub fn let_all_open(&self) {
+        for direction in Direction::BOTH {
+            self.set_opening_fails(direction, false);
+        }
+    }
+
+    /// Takes over another's settings, and the contents of its queues where a stream is open here too.
+    pub fn take_after(&self, other: &Self) {
+        for direction in Direction::BOTH {
+            self.set_opening_fails(direction, other.opening_fails(direction));
+            if let Some(queue) = self.queue(direction) {
+                queue.put(&other.contents(direction));
+            }
+        }
+        self.downstream.store(other.downstream(), Relaxed);
+    }
+
     pub fn feed(&self, frames: &[u8]) -> (u32, u32) {
         if !frames.len().is_multiple_of(FRAME_BYTES) {
             return (number::ODD_FRAMES, 0);

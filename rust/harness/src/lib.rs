@@ -5,6 +5,7 @@ pub mod device;
 pub mod differences;
 pub mod generate;
 pub mod host;
+pub mod jitter;
 pub mod lockstep;
 pub mod ops;
 pub mod ported;

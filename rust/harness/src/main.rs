@@ -2,6 +2,7 @@
 use harness::coverage::Coverage;
 use harness::device::{Amended, Reference};
 use harness::generate::Generator;
+use harness::jitter;
 use harness::lockstep::{DEFAULT_MEMORY, InStep, Lockstep, Parting, Run, run_ops, run_seed};
 use harness::ops::{Op, execute, number, parse_log, result_line};
 use harness::ported::Port;
@@ -35,6 +36,11 @@ judge trace FILE [--port]
 judge record FILE
     Writes the calls that program rehearse runs, with the reference's answers, or the amended oracle's where a difference
     has made the reference part: generated sequences, some written by hand, then the trace of FILE.
+judge jitter --first SEED --count N
+    N random machines, one for each seed from SEED on, whose lists, buffers, rings and position buffer lie over one
+    another: the counts between which the port says that streams end after any time of a range, against the amended
+    oracle, which is run on a copy for each time that can make a difference. Fails at the first machine of which they
+    say something else, and prints its op log.
 judge --help";
 
 /// Unexplained partings that are shown in full.
@@ -99,6 +105,11 @@ fn compare<T: InStep>(mut options: Options) -> Result<bool, String> {
             let data = record::record(&text)?;
             std::io::stdout().write_all(&data).map_err(|error| error.to_string())?;
             Ok(true)
+        }
+        "jitter" => {
+            let (first, count) = (options.named("--first")?, options.named("--count")?);
+            options.end()?;
+            Ok(jittery(first, count))
         }
         "--help" | "help" => {
             println!("{USAGE}");
@@ -242,6 +253,23 @@ fn soak<T: InStep>(time: Duration, first: u64) -> bool {
     }
     println!("seeds {first} to {}", seed - 1);
     tally.report()
+}
+
+/// Random machines under a timer with jitter; true if the port says of each what the amended oracle shows.
+fn jittery(first: u64, count: u64) -> bool {
+    let (mut tally, mut shown) = (jitter::Tally::default(), Instant::now());
+    for seed in first..first.saturating_add(count) {
+        if let Err(error) = jitter::judge(seed, &mut tally) {
+            println!("{error}");
+            return false;
+        }
+        if shown.elapsed() >= PROGRESS {
+            shown = Instant::now();
+            eprintln!("{} machines, {} cases", tally.machines, tally.cases);
+        }
+    }
+    println!("{tally}");
+    true
 }
 
 fn generate(seed: u64, length: usize, tame: bool) {

@@ -6,7 +6,7 @@ use crate::state::{SPACING, State};
 use port::layout::POSITIONS;
 use std::fmt::{self, Write as _};
 
-/// One call. Those from `Poke` on are the harness's own, the others are calls of document 01, and one of request T-09.
+/// One call. Those from `Poke` on are the harness's own, the others are calls of document 01, and one each of requests T-09 and T-13.
 #[derive(Clone, Debug, PartialEq, Eq)]
 pub enum Op {
     New {
@@ -40,6 +40,11 @@ pub enum Op {
     Save,
     Restore(Vec<u8>),
     RestoreEmptied(Vec<u8>),
+    /// Between which counts the streams end after a time that is known so well; the bytes are those of docs/LAYOUT.md.
+    AdvanceBounds {
+        shortest: u64,
+        longest: u64,
+    },
     /// Writes guest memory; out of range it does nothing and answers 1.
     Poke {
         address: u64,
@@ -89,6 +94,7 @@ impl Op {
             Self::Save => "save",
             Self::Restore(_) => "restore",
             Self::RestoreEmptied(_) => "restore-emptied",
+            Self::AdvanceBounds { .. } => "bounds",
             Self::Poke { .. } => "poke",
             Self::Peek { .. } => "peek",
             Self::Noise(_) => "noise",
@@ -121,6 +127,7 @@ impl Op {
             "save" => Self::Save,
             "restore" => Self::Restore(words.bytes()?),
             "restore-emptied" => Self::RestoreEmptied(words.bytes()?),
+            "bounds" => Self::AdvanceBounds { shortest: words.number()?, longest: words.number()? },
             "poke" => Self::Poke { address: words.number()?, data: words.bytes()? },
             "peek" => Self::Peek { address: words.number()?, length: words.number()? as usize },
             "noise" => Self::Noise(words.number()?),
@@ -150,6 +157,7 @@ impl fmt::Display for Op {
             Self::Fail { direction, fails } => write!(f, " {} {}", direction.name(), u8::from(*fails)),
             Self::Downstream(bytes) => write!(f, " {bytes}"),
             Self::Save => Ok(()),
+            Self::AdvanceBounds { shortest, longest } => write!(f, " {shortest} {longest}"),
             Self::Poke { address, data } => write!(f, " {address:#x} {}", hex(data)),
             Self::Peek { address, length } => write!(f, " {address:#x} {length}"),
             Self::Close(direction) => write!(f, " {}", direction.name()),
@@ -265,6 +273,13 @@ pub fn execute<S: Side>(side: &mut S, op: &Op) -> Answer {
         }
         Op::Restore(state) => answer.number = side.restore(state),
         Op::RestoreEmptied(state) => answer.number = side.restore_emptied(state),
+        Op::AdvanceBounds { shortest, longest } => match side.advance_bounds(*shortest, *longest) {
+            Ok(bounds) => {
+                answer.bytes = bounds.iter().flat_map(|bounds| [bounds.lowest, bounds.highest]).flat_map(u64::to_le_bytes).collect();
+                answer.value = answer.bytes.len() as u64;
+            }
+            Err(number) => answer.number = number,
+        },
         Op::Poke { address, data } => match range(*address, data.len(), side.memory().len()) {
             Some(range) => side.memory_mut()[range].copy_from_slice(data),
             None => answer.number = 1,
@@ -350,8 +365,10 @@ fn digest(start: u64, bytes: &[u8]) -> u64 {
 #[cfg(test)]
 mod tests {
     use super::*;
+    use crate::device::{Amended, Reference};
     use crate::generate::Generator;
     use crate::ported::Port;
+    use crate::side::number;
 
     #[test]
     fn what_is_printed_is_read_back() {
@@ -367,6 +384,22 @@ mod tests {
         for line in ["restore 0a", "restore-emptied 0b", "restore-emptied -", "list playback 3", "restore-list capture 4"] {
             assert_eq!(Op::parse(line).map(|op| op.unwrap().to_string()), Ok(line.into()));
         }
+    }
+
+    #[test]
+    fn bounds_are_read_printed_and_answered_by_every_side() {
+        let line = "bounds 41667 20834";
+        let reversed = Op::parse(line).unwrap().unwrap();
+        assert_eq!(reversed.to_string(), line);
+        let still = Op::AdvanceBounds { shortest: 0, longest: u64::MAX };
+        fn answers<S: Side>(ops: [&Op; 2]) -> [(u32, u64, usize); 2] {
+            let mut side = S::new(true, 4096);
+            ops.map(|op| execute(&mut side, op)).map(|answer| (answer.number, answer.value, answer.bytes.len()))
+        }
+        let expected = [(number::REVERSED, 0, 0), (number::DONE, 32, 32)];
+        let came =
+            [answers::<Reference>([&reversed, &still]), answers::<Amended>([&reversed, &still]), answers::<Port>([&reversed, &still])];
+        assert_eq!(came, [expected; 3]);
     }
 
     #[test]

@@ -1,8 +1,8 @@
 //! The side over the port's C functions.
 use crate::side::{Direction, Interrupts, Message, Side, View, number};
 use crate::state;
-use port::layout::{LIST, device, host, put, stream};
-use port::{Answer, Bytes, Machine, Stream};
+use port::layout::{BOUNDS, LIST, device, host, put, stream};
+use port::{Answer, Bounds, Bytes, Machine, Scratch, Stream, calls};
 
 pub struct Port {
     machine: Machine,
@@ -101,7 +101,52 @@ impl Side for Port {
         let answer = self.machine.restore_emptied(state);
         self.told(answer)
     }
+    fn advance_bounds(&mut self, shortest: u64, longest: u64) -> Result<[Bounds; 2], u32> {
+        let Bytes { device, host, lists, queues } = self.machine.bytes();
+        // Longer than guest memory, whose end decides what fails.
+        let length = self.memory.len() + 64;
+        let mut scratch = Scratch::new(length);
+        let Scratch { lists: more_lists, queues: more_queues, memory: more_memory } = &mut scratch;
+        // What the scratch holds is no matter: bytes that would lead a stream astray.
+        more_lists.fill(0xa5);
+        more_queues.fill(0x5a);
+        more_memory.fill(0x04);
+        let mut into = [0; BOUNDS];
+        let reply = calls::advance_bounds(
+            device,
+            host,
+            &**lists,
+            &**queues,
+            &self.memory,
+            shortest,
+            longest,
+            &mut **more_lists,
+            &mut **more_queues,
+            more_memory,
+            &mut into,
+        );
+        let answer = reply.answer(device);
+        match self.told(answer) {
+            number::DONE => {
+                assert!(scratch == Scratch::new(length), "an accepted call leaves scratch behind");
+                assert_eq!(answer.value as usize, BOUNDS, "the length of the result");
+                Ok(Bounds::each(&into))
+            }
+            refused => Err(refused),
+        }
+    }
 
+    fn copied(&self) -> Self {
+        let mut copy = Self::new(true, self.memory.len());
+        copy.copy_from(self);
+        copy
+    }
+    fn copy_from(&mut self, other: &Self) {
+        self.machine.clone_from(&other.machine);
+        self.memory.copy_from_slice(&other.memory);
+        self.interrupts = Interrupts { level: other.interrupts.level, messages: Vec::new() };
+        self.by_bar = other.by_bar;
+    }
     fn close(&mut self, direction: Direction) {
         self.change(|bytes| {
             bytes.host[host::open(direction.index())] = 0;

@@ -102,7 +102,7 @@ fn generated(seed: u64, tame: bool) -> Vec<u8> {
 fn is_recorded(op: &Op) -> bool {
     match op {
         Op::Restore(state) | Op::RestoreEmptied(state) => state.len() <= LONGEST,
-        Op::List { .. } | Op::RestoreList { .. } | Op::Close(_) | Op::Peek { .. } => false,
+        Op::List { .. } | Op::RestoreList { .. } | Op::Close(_) | Op::Peek { .. } | Op::AdvanceBounds { .. } => false,
         _ => true,
     }
 }

@@ -56,6 +56,12 @@ fn simpler(op: &Op) -> Vec<Op> {
     let numbers = |number: u64| [0, number / 2, number - number % 1000, number.saturating_sub(1)].into_iter().filter(move |n| *n < number);
     match op {
         Op::Advance(time) => numbers(*time).map(Op::Advance).collect(),
+        Op::AdvanceBounds { shortest, longest } => {
+            // From either end, half of the range or a nanosecond goes.
+            let cuts = [longest.saturating_sub(*shortest).div_ceil(2), 1].map(|cut| cut.min(longest.saturating_sub(*shortest)));
+            let ranges = cuts.into_iter().filter(|cut| *cut > 0).flat_map(|cut| [(shortest + cut, *longest), (*shortest, longest - cut)]);
+            ranges.map(|(shortest, longest)| Op::AdvanceBounds { shortest, longest }).collect()
+        }
         Op::Pull(length) => lengths(*length).map(Op::Pull).collect(),
         Op::Downstream(bytes) => numbers(u64::from(*bytes)).map(|bytes| Op::Downstream(bytes as u32)).collect(),
         Op::Read { offset, length } => lengths(*length).map(|length| Op::Read { offset: *offset, length }).collect(),

@@ -2,7 +2,9 @@
 //!
 //! Nothing here knows how a side is made. The Rust devices are two sides (device.rs), the port's C functions a third (ported.rs).
 use crate::differences::Differences;
+use crate::jitter;
 use crate::state::{self, Fields, Stream};
+use port::Bounds;
 
 /// A stream's direction. Its number is the stream's index in registers, saved states and host end.
 #[derive(Clone, Copy, Debug, PartialEq, Eq)]
@@ -31,6 +33,8 @@ pub mod number {
     pub const LATENCY: u32 = 12;
     /// Restore's alone, by request T-09; the unchanged Rust never gives it.
     pub const CROWDED: u32 = 20;
+    /// Request T-13's; the Rust has no such call.
+    pub const REVERSED: u32 = 21;
 }
 
 /// One MSI message.
@@ -115,7 +119,22 @@ pub trait Side {
     fn restore(&mut self, state: &[u8]) -> u32;
     /// Request T-09's call: as restore, but crowded lists are emptied. The unchanged Rust has none, and its side restores: the same wherever no list is crowded.
     fn restore_emptied(&mut self, state: &[u8]) -> u32;
+    /// Request T-13's call. The Rust devices have none: they are run, on copies, for each time that can make a difference.
+    fn advance_bounds(&mut self, shortest: u64, longest: u64) -> Result<[Bounds; 2], u32>
+    where
+        Self: Sized,
+    {
+        if shortest > longest { Err(number::REVERSED) } else { Ok(jitter::exhausted(self, shortest, longest).bounds) }
+    }
 
+    /// A side of its own with the same device, host end and guest memory.
+    fn copied(&self) -> Self
+    where
+        Self: Sized;
+    /// Becomes such a copy of a side with as much guest memory, whatever it was before.
+    fn copy_from(&mut self, other: &Self)
+    where
+        Self: Sized;
     /// Closes the host stream and keeps RUN, which no call does: only so can `advance` be refused.
     fn close(&mut self, direction: Direction);
     /// Gives a stream the counts and the list of another, which no call does and one who lends the bytes may: restore takes no crowded list.

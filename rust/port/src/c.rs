@@ -23,6 +23,28 @@ unsafe extern "C" {
         memory_length: usize,
         nanos: u64,
     ) -> u64;
+    pub fn hda_advance_bounds(
+        device: *const u8,
+        device_length: usize,
+        host: *const u8,
+        host_length: usize,
+        lists: *const u8,
+        lists_length: usize,
+        queues: *const u8,
+        queues_length: usize,
+        memory: *const u8,
+        memory_length: usize,
+        shortest: u64,
+        longest: u64,
+        scratch_lists: *mut u8,
+        scratch_lists_length: usize,
+        scratch_queues: *mut u8,
+        scratch_queues_length: usize,
+        scratch_memory: *mut u8,
+        scratch_memory_length: usize,
+        into: *mut u8,
+        into_length: usize,
+    ) -> u64;
     pub fn hda_read(
         device: *const u8,
         device_length: usize,

@@ -36,6 +36,48 @@ pub fn advance(device: &mut [u8], host: &mut [u8], lists: &mut [u8], queues: &mu
     })
 }
 
+/// Between which counts the streams' submitted bytes end after an [`advance`] of `shortest` to `longest` nanoseconds, every opening taken as one that succeeds: the lowest and the highest of each stream into
+/// the start of `into`; the reply's value is their length. All of the scratch is 0 afterwards, and as it was where the call refuses.
+#[allow(clippy::too_many_arguments)]
+pub fn advance_bounds(
+    device: &[u8],
+    host: &[u8],
+    lists: &[u8],
+    queues: &[u8],
+    memory: &[u8],
+    shortest: u64,
+    longest: u64,
+    scratch_lists: &mut [u8],
+    scratch_queues: &mut [u8],
+    scratch_memory: &mut [u8],
+    into: &mut [u8],
+) -> Reply {
+    Reply(unsafe {
+        c::hda_advance_bounds(
+            device.as_ptr(),
+            device.len(),
+            host.as_ptr(),
+            host.len(),
+            lists.as_ptr(),
+            lists.len(),
+            queues.as_ptr(),
+            queues.len(),
+            memory.as_ptr(),
+            memory.len(),
+            shortest,
+            longest,
+            scratch_lists.as_mut_ptr(),
+            scratch_lists.len(),
+            scratch_queues.as_mut_ptr(),
+            scratch_queues.len(),
+            scratch_memory.as_mut_ptr(),
+            scratch_memory.len(),
+            into.as_mut_ptr(),
+            into.len(),
+        )
+    })
+}
+
 /// Registers from `offset` on, into `into`.
 pub fn read(device: &[u8], host: &[u8], lists: &[u8], queues: &[u8], offset: u64, into: &mut [u8]) -> Reply {
     Reply(unsafe {

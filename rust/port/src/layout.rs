@@ -22,6 +22,9 @@ pub const MAX_DOWNSTREAM: u32 = 14_336;
 /// Bytes of a saved state without pending positions, and most bytes of any.
 pub const STATE: usize = 748;
 pub const MAX_STATE: usize = STATE + LISTS;
+/// Bytes of what `advance_bounds` gives of a stream, the lowest count and then the highest, and of all streams.
+pub const BOUND: usize = 16;
+pub const BOUNDS: usize = STREAMS * BOUND;
 
 /// Places in a device record.
 pub mod device {

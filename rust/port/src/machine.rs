@@ -1,5 +1,5 @@
 //! A device with its host end, and all that they are lent besides guest memory.
-use crate::layout::{DEVICE, FRAME_TIME, HOST, LIST, LISTS, MAX_STATE, QUEUE, QUEUES, STREAMS, device, get, host, stream};
+use crate::layout::{BOUND, BOUNDS, DEVICE, FRAME_TIME, HOST, LIST, LISTS, MAX_STATE, QUEUE, QUEUES, STREAMS, device, get, host, stream};
 use crate::{Answer, Reply, calls, format, number};
 
 /// The records and lent spaces as bytes (docs/LAYOUT.md).
@@ -15,6 +15,37 @@ pub struct Bytes {
 #[derive(Clone, PartialEq, Eq)]
 pub struct Machine {
     bytes: Bytes,
+}
+
+/// Space that [`Machine::advance_bounds`] works in: one for each thread that asks serves any number of machines, one after the other. A call that answers leaves all of it zero, so that nothing of one guest's memory is there
+/// for the next.
+#[derive(Clone, PartialEq, Eq)]
+pub struct Scratch {
+    pub lists: Box<[u8; LISTS]>,
+    pub queues: Box<[u8; QUEUES]>,
+    /// As long as the guest's, or longer.
+    pub memory: Vec<u8>,
+}
+
+impl Scratch {
+    /// Scratch for guests of up to `memory` bytes.
+    pub fn new(memory: usize) -> Self {
+        Self { lists: Box::new([0; LISTS]), queues: Box::new([0; QUEUES]), memory: vec![0; memory] }
+    }
+}
+
+/// Between which counts the submitted bytes of a stream end. Both are reached.
+#[derive(Clone, Copy, Debug, PartialEq, Eq)]
+pub struct Bounds {
+    pub lowest: u64,
+    pub highest: u64,
+}
+
+impl Bounds {
+    /// Those of each stream in what [`calls::advance_bounds`] has filled.
+    pub fn each(filled: &[u8; BOUNDS]) -> [Self; STREAMS] {
+        std::array::from_fn(|index| Self { lowest: get::<8>(filled, BOUND * index), highest: get::<8>(filled, BOUND * index + 8) })
+    }
 }
 
 impl Machine {
@@ -45,6 +76,28 @@ impl Machine {
         let Bytes { device, host, lists, queues } = &mut self.bytes;
         let reply = calls::advance(device, host, &mut **lists, &mut **queues, memory, nanos);
         self.answer(reply)
+    }
+
+    /// Between which counts each stream's submitted bytes end after an [`Machine::advance`] of `shortest` to `longest` nanoseconds, where every opening succeeds. Nothing changes but the scratch, which is 0 afterwards. Refused with
+    /// [`number::REVERSED`] or, where the scratch has less memory than the guest, [`number::SHORT_SPACE`]; a refusal leaves the scratch as it was.
+    pub fn advance_bounds(&self, memory: &[u8], shortest: u64, longest: u64, scratch: &mut Scratch) -> Result<[Bounds; STREAMS], u8> {
+        let Bytes { device, host, lists, queues } = &self.bytes;
+        let mut filled = [0; BOUNDS];
+        let Scratch { lists: more_lists, queues: more_queues, memory: more_memory } = scratch;
+        let reply = calls::advance_bounds(
+            device,
+            host,
+            &**lists,
+            &**queues,
+            memory,
+            shortest,
+            longest,
+            &mut **more_lists,
+            &mut **more_queues,
+            more_memory,
+            &mut filled,
+        );
+        if reply.number() == number::DONE { Ok(Bounds::each(&filled)) } else { Err(reply.number()) }
     }
 
     /// Registers from `offset` on, into `into`.
@@ -213,6 +266,11 @@ impl Machine {
         &queue[..length.min(QUEUE)]
     }
 
+    /// The bytes that a stream has submitted since it was reset: taken for the guest by a capture, or put into the queue by a playback.
+    pub fn submitted(&self, which: Stream) -> u64 {
+        get::<8>(&self.bytes.device, device::stream(which.index()) + stream::SUBMITTED)
+    }
+
     /// The whole frames that are due in a stream and were not moved: those of a playback whose queue is full wait for the host's pulls.
     pub fn deferred(&self, which: Stream) -> u64 {
         get::<8>(&self.bytes.device, device::stream(which.index()) + stream::TIME) / FRAME_TIME
@@ -324,6 +382,72 @@ mod tests {
         }
         machine.write(&mut memory, 0xa0, &[0]);
         assert_eq!(machine.deferred(Stream::Playback), 0, "stopped");
+    }
+
+    #[test]
+    fn counts_end_between_those_of_the_shortest_and_the_longest_time() {
+        let mut memory = [0; 4096];
+        let machine = playing(&mut memory);
+        let (before, mut scratch) = (machine.clone(), Scratch::new(memory.len() + 1));
+        let still = Bounds { lowest: 0, highest: 0 };
+        // A nanosecond before the first frame and at it; a millisecond and a half more or less; until the queue is full.
+        for (shortest, longest, lowest, highest) in
+            [(0, 20_833, 0, 0), (0, 20_834, 0, 4), (20_834, 20_834, 4, 4), (500_000, 1_500_000, 96, 288), (1_000_000, u64::MAX, 192, 2048)]
+        {
+            scratch.lists.fill(0xa5);
+            scratch.queues.fill(0xa5);
+            scratch.memory.fill(0xa5);
+            let bounds = machine.advance_bounds(&memory, shortest, longest, &mut scratch);
+            assert_eq!(bounds, Ok([still, Bounds { lowest, highest }]), "{shortest} to {longest} ns");
+            assert!(scratch == Scratch::new(memory.len() + 1), "the scratch is zero, also beyond the guest's length");
+        }
+        assert!(machine == before);
+    }
+
+    #[test]
+    fn a_long_time_can_end_below_a_shorter_one() {
+        let mut memory = [0; 4096];
+        let mut machine = playing(&mut memory);
+        // Ten frames fit between the buffer's address and the end of memory. With the eleventh the transfer fails, and none of them counts.
+        memory[..2].copy_from_slice(&4056_u16.to_le_bytes());
+        let mut scratch = Scratch::new(memory.len());
+        let mut highest =
+            |shortest, longest| machine.advance_bounds(&memory, shortest, longest, &mut scratch).map(|bounds| bounds[1].highest);
+        assert_eq!([highest(0, 0), highest(100_000, 100_000), highest(500_000, 500_000), highest(0, 500_000)], [0, 16, 0, 40].map(Ok));
+        assert_eq!(machine.advance(&mut memory, 500_000).number, number::DONE);
+        assert_eq!((machine.submitted(Stream::Playback), machine.open(Stream::Playback)), (0, false));
+    }
+
+    #[test]
+    fn bounds_are_refused_by_number_and_leave_the_scratch() {
+        let mut memory = [0; 4096];
+        let machine = playing(&mut memory);
+        let mut scratch = Scratch { memory: vec![0xa5; memory.len() - 1], ..Scratch::new(0) };
+        let before = scratch.clone();
+        assert_eq!(machine.advance_bounds(&memory, 2, 1, &mut scratch), Err(number::REVERSED));
+        assert_eq!(machine.advance_bounds(&memory, 1, 2, &mut scratch), Err(number::SHORT_SPACE));
+        let mut bytes = machine.bytes().clone();
+        bytes.host[host::DOWNSTREAM] = 2;
+        assert_eq!(Machine::from_bytes(bytes).advance_bounds(&memory, 2, 1, &mut scratch), Err(number::STATE));
+        assert!(scratch == before);
+        assert!(machine.advance_bounds(&memory[1..], 1, 2, &mut scratch).is_ok(), "a guest as long as the scratch");
+    }
+
+    #[test]
+    fn openings_are_taken_as_ones_that_succeed() {
+        let mut memory = [0; 4096];
+        let mut machine = playing(&mut memory);
+        let mut scratch = Scratch::new(memory.len());
+        let open = machine.advance_bounds(&memory, 0, 1_000_000, &mut scratch);
+        // The host end is made anew, so that the next turn opens the stream, and refuses to.
+        let mut bytes = machine.bytes().clone();
+        assert_eq!(calls::host_new(&mut bytes.host, &*bytes.queues).number(), number::DONE);
+        machine = Machine::from_bytes(bytes);
+        machine.set_playback_fails(true);
+        assert_eq!(machine.advance_bounds(&memory, 0, 1_000_000, &mut scratch), open);
+        assert_eq!((open.unwrap()[1].highest, machine.playback_fails()), (192, true));
+        assert_eq!(machine.advance(&mut memory, 1_000_000).number, number::HOST_CLOSED);
+        assert_eq!(machine.submitted(Stream::Playback), 0);
     }
 
     #[test]

@@ -28,10 +28,12 @@ pub mod number {
     pub const LATENCY: u8 = 12;
     /// A rate or a length that no take has, or a file of another layout.
     pub const WAV: u8 = 13;
-    /// Too little space for the result.
+    /// Too little space for the result, or too little scratch.
     pub const SHORT_SPACE: u8 = 14;
     /// A crowded list: neighbours fewer than 4 bytes apart, or the last with the stream's descriptor offset above what was submitted.
     pub const CROWDED: u8 = 20;
+    /// A shortest time above the longest.
+    pub const REVERSED: u8 = 21;
 }
 
 /// The number that a C function returned. Bits 31..10 are always 0.
