@@ -106,7 +106,7 @@ static inline uint64_t hda_deferred(const uint8_t device[HDA_DEVICE_BYTES], unsi
     return billionths / 1000000000;
 }
 
-/* The bytes that stream 0 or 1 has submitted since it was reset: taken for the guest by a capture, or put into the queue by a playback. */
+/* The count of bytes that stream 0 or 1 has submitted: written to guest memory by a capture, read from it by a playback. It begins at 0 with a reset, or where a restored state says. */
 static inline uint64_t hda_submitted(const uint8_t device[HDA_DEVICE_BYTES], unsigned stream)
 {
     uint64_t bytes = 0;

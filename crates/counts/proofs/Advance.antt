@@ -1,46 +1,37 @@
 -- The counts after `advance` depend on elapsed time through the frames that each stream can move alone, and on guest memory through the windows of `Seen` alone.
 -- Assumes nothing.
-use Prim.Native.Nat.{ℕ, zero, suc, _+_, _-_, _*_, _/_, _≤_, _<_}
+use Prim.Native.Nat.{ℕ, _+_, _-_, _≤_, _<_}
 use mathlib.Core.Path.{_≡_, refl, sym, ap, _∙_, subst}
-use mathlib.Core.Bool.{Bool, true, false, cond, not, _&&_, _||_, true≢false}
+use mathlib.Core.Bool.{Bool, true, false, cond, _&&_, true≢false}
 use mathlib.Core.List.{List}
-use mathlib.Core.Logic.{_⊎_, inl, inr}
+use mathlib.Core.Logic.{inl, inr}
 use native.Mathlib.Omega.{arith}
-use borrow.Author.Tests.{eqb-true}
-use lib.Dec.{eqb}
 use lib.ListN.{length, getD}
 use Rattle.word.specs.Place.{wordAt, storeAt}
-use Rattle.word.specs.Parts.{partOf}
-use Rattle.word.proofs.Choices.{by-test}
 use Rattle.word.proofs.Place.{byte-elsewhere, length-store}
-use Rattle.clock.specs.declared.Clock.{Clock}
 use Rattle.clock.specs.Clock as clock
 use Rattle.clock.specs.Frames.{accrueOf, wholeFramesOf}
 use Rattle.format.specs.declared.Format.{Format}
-use Rattle.format.specs.declared.Format.the-variants.{Unsupported, Rate}
+use Rattle.format.specs.declared.Format.the-variants.{Rate}
 use Rattle.format.specs.Format.{formatOf}
 use Rattle.plan.specs.Plans.{readyOf}
 use Rattle.plan.proofs.Laws.{ready-byte}
-use Rattle.stream.specs.declared.Stream.{Stream}
-use Rattle.stream.specs.Streams.{listSize}
 use Rattle.stream.specs.Box.{streams, captures}
-use Rattle.queue.specs.Queues.{capacity}
 use Rattle.host.specs.Hosts.{queueAt}
-use Rattle.registers.specs.Places.{size, gctl, walclk, corbbase, bdpl, fmt, baseOf, byteAt, has, dmaOf}
+use Rattle.registers.specs.Places.{size, gctl, walclk, corbbase, fmt, baseOf, byteAt, has, dmaOf}
 use Rattle.registers.proofs.Files.{File}
 use Rattle.rings.specs.Rings.{Rings, ringsOf, commandsOf}
 use Rattle.rings.proofs.Facts.{commands-outside}
 use Rattle.turn.specs.Setups.{cyclicOf}
-use Rattle.device.specs.declared.Hda.{Hda}
 use Rattle.device.specs.Devices.{streamAt}
-use Rattle.device.specs.Machines.{Machine, machine, Done, checkMachine, unchanged, finished, finishOf, commandedOf, withCommanded, answerOf}
+use Rattle.device.specs.Machines.{Machine, machine, Done, unchanged, finished, finishOf, commandedOf, withCommanded, answerOf}
 use Rattle.serve.specs.Serve.{serveOf}
 use Rattle.advance.specs.Advance.{tickedOf, servedOf, afterCommands, stillOf, advanceStep, advanceOf}
 use Rattle.calls.proofs.Devices.{Stands, stands-check, commanded-stands, commanded-holds}
 use Rattle.calls.proofs.Advance.{ticked-holds}
 use lib.Seq.{getD-drop}
 use Rattle.counts.specs.Counts.{framesBy, movableBy, movableOf, Seen, listed, commanded, Agree, Copied}
-use Rattle.counts.proofs.Agree.{agree-refl, agree-word}
+use Rattle.counts.proofs.Agree.{agree-word}
 use Rattle.counts.proofs.Pieces.{Listed}
 use Rattle.counts.proofs.Turns.{Timeless}
 use Rattle.counts.proofs.Rings.{FilesAlike, RingsAlike, commands-alike}

@@ -1,7 +1,6 @@
 -- Lists of bytes that agree at the places of a set: what a run of the device can tell apart of two guest memories, and of two register files. Assumes nothing.
-use Prim.Native.Nat.{ℕ, _+_, _-_, _≤_, _<_, min}
+use Prim.Native.Nat.{ℕ, _+_, _-_, _≤_, _<_}
 use mathlib.Core.Path.{_≡_, refl, sym, ap, _∙_}
-use mathlib.Core.Bool.{Bool, true, false, cond}
 use mathlib.Core.List.{List, [], _∷_}
 use mathlib.Core.Logic.{_⊎_, inl, inr}
 use native.Mathlib.Omega.{arith}
@@ -11,8 +10,7 @@ use lib.ListN.{length, take, drop, getD, set, length-take, length-drop}
 use lib.Seq.{ext-getD, getD-take, getD-drop}
 use Rattle.word.specs.Value.{valueOf, bytesOf}
 use Rattle.word.specs.Place.{putAt, wordAt, storeAt}
-use Rattle.word.proofs.Choices.{by-test, by-cond}
-use Rattle.word.proofs.Lists.{length-part}
+use Rattle.word.proofs.Choices.{by-test}
 use Rattle.word.proofs.Put.{length-put, put-there, put-byte-elsewhere, set-put}
 use Rattle.word.proofs.Place.{store-put}
 use Rattle.word.proofs.Value.{length-bytes}

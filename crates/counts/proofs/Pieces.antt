@@ -1,14 +1,13 @@
 -- The pieces of a period see guest memory through the stream's own descriptor list alone, and its list of positions not at all: over two memories that agree there, and from two streams that differ in their
 -- frame time alone, they do the same. Assumes nothing.
-use Prim.Native.Nat.{ℕ, zero, suc, _+_, _-_, _*_, _/_, _≤_, _<_, min}
-use mathlib.Core.Path.{_≡_, refl, sym, ap, _∙_, subst}
-use mathlib.Core.Bool.{Bool, true, false, cond, true≢false}
+use Prim.Native.Nat.{ℕ, zero, suc, _+_, _-_, _*_, _/_, _≤_, _<_}
+use mathlib.Core.Path.{_≡_, refl, sym}
+use mathlib.Core.Bool.{Bool, true, false, true≢false}
 use mathlib.Core.List.{List}
 use native.Mathlib.Omega.{arith}
 use borrow.Author.Tests.{ltb-false}
 use lib.Dec.{ltb}
 use lib.ListN.{length, take, drop, length-take}
-use Rattle.word.specs.Place.{putAt}
 use Rattle.word.proofs.Choices.{by-test}
 use Rattle.memory.specs.declared.Fetched.{Fetched}
 use Rattle.memory.specs.declared.Fetched.the-variants.{Outside, Entry}
@@ -20,7 +19,7 @@ use Rattle.plan.specs.declared.End.the-variants.{Inside, Plain, Flagged}
 use Rattle.plan.specs.declared.Plan.{Plan}
 use Rattle.plan.specs.declared.Plan.the-variants.{Failed, Full, Move}
 use Rattle.plan.specs.Plans.{descriptorAt, endOf, placedOf, entryOf, fetchedOf, planOf}
-use Rattle.pieces.specs.Pieces.{EndOk, nextOf, listOf, memoryOf, pcmOf, State, stateOf, Out, outOf, movedOf, doneOf, pieceOf, onward, again, piecesOf}
+use Rattle.pieces.specs.Pieces.{EndOk, nextOf, listOf, memoryOf, pcmOf, State, stateOf, Out, outOf, doneOf, pieceOf, onward, piecesOf}
 use Rattle.pieces.proofs.Plans.{PlanOk, plan-ok}
 use Rattle.turn.specs.Engines.{withFraction}
 use Rattle.counts.specs.Counts.{Agree, Pending}

@@ -1,14 +1,13 @@
 -- Every stream's turn in order, for two times that make as many frames to move for each stream, over memories that agree on the descriptor lists. Assumes nothing.
-use Prim.Native.Nat.{ℕ, zero, suc, _+_, _*_, _^_, _≤_, _<_}
+use Prim.Native.Nat.{ℕ, zero, suc, _+_, _*_, _≤_, _<_}
 use mathlib.Core.Path.{_≡_, refl, sym, ap, _∙_}
-use mathlib.Core.Bool.{Bool, true, false, cond, not, _&&_, true≢false}
+use mathlib.Core.Bool.{Bool, true, false, cond, not, true≢false}
 use mathlib.Core.List.{List, [], _∷_}
-use mathlib.Core.Logic.{_⊎_, inl, inr, _≢_}
+use mathlib.Core.Logic.{inr, _≢_}
 use native.Mathlib.Omega.{arith}
 use native.Mathlib.Nat.{suc-inj}
 use borrow.Author.Tests.{ltb-true, ltb-false}
-use lib.Dec.{eqb, ltb}
-use lib.Bits.{bitAnd}
+use lib.Dec.{ltb}
 use lib.ListN.{length, getD, set, length-set, List·getD-eq-default}
 use lib.Seq.{getD-set-other}
 use Rattle.word.specs.Place.{wordAt}
@@ -31,7 +30,7 @@ use Rattle.queue.specs.Queues.{capacity}
 use Rattle.queue.proofs.Validity.{queue-bound}
 use Rattle.host.specs.Hosts.{queueAt}
 use Rattle.host.proofs.Checks.{valid-queue}
-use Rattle.registers.specs.Places.{size, ssync, baseOf, ctl, fmt, byteAt, has}
+use Rattle.registers.specs.Places.{size, ssync, baseOf, ctl, fmt}
 use Rattle.turn.specs.declared.Engine.{Engine}
 use Rattle.turn.specs.Setups.{cyclicOf}
 use Rattle.turn.specs.Turns.{storeEngine, Turn, turnOf}

@@ -1,16 +1,15 @@
 -- A transfer over two memories that agree on the stream's descriptor list does the same, but for what a playback queues. Assumes nothing.
-use Prim.Native.Nat.{ℕ, _*_}
-use mathlib.Core.Path.{_≡_, refl, sym, ap, _∙_, subst}
+use Prim.Native.Nat.{ℕ}
+use mathlib.Core.Path.{_≡_, refl, sym, _∙_, subst}
 use mathlib.Core.Bool.{Bool, true, false, cond, true≢false}
 use mathlib.Core.List.{List}
-use Rattle.word.proofs.Choices.{by-test}
 use Rattle.stream.specs.declared.Stream.{Stream}
 use Rattle.stream.specs.declared.Cyclic.{Cyclic}
 use Rattle.plan.specs.Plans.{readyOf}
 use Rattle.pieces.specs.Pieces.{Out, stateOf, piecesOf}
 use Rattle.queue.specs.declared.Queue.{Queue}
-use Rattle.queue.specs.Queues.{Moved, putOf}
-use Rattle.transfer.specs.Transfers.{Transfer, transferOut, withPieces, silence, takenOf, capturedOf, captureOf, heardOf, queuedOf, playbackOf, framesMoved, transferOf}
+use Rattle.queue.specs.Queues.{putOf}
+use Rattle.transfer.specs.Transfers.{Transfer, transferOut, withPieces, silence, takenOf, capturedOf, captureOf, heardOf, playbackOf, transferOf}
 use Rattle.turn.specs.Engines.{withFraction}
 use Rattle.counts.specs.Counts.{Agree, Pending}
 use Rattle.counts.proofs.Pieces.{Listed, OutAlike, pieces-alike}

@@ -1,7 +1,7 @@
 -- What a run of `advance` can tell apart of two machines, as far as the streams' submitted counts go.
 use Prim.Native.Nat.{ℕ, _+_, _-_, _*_, _/_, _≤_, _<_, min}
 use mathlib.Core.Path.{_≡_}
-use mathlib.Core.Bool.{Bool, true, cond}
+use mathlib.Core.Bool.{Bool, cond}
 use mathlib.Core.List.{List}
 use lib.ListN.{length, take, getD}
 use Rattle.word.specs.Place.{wordAt}

@@ -1,10 +1,9 @@
 -- What a copy of a window comes to. Assumes nothing.
 use Prim.Native.Nat.{ℕ, _+_, _-_, _≤_, _<_, min}
-use mathlib.Core.Path.{_≡_, refl, sym, ap, _∙_}
+use mathlib.Core.Path.{_≡_, sym, ap, _∙_}
 use mathlib.Core.List.{List, _++_}
 use native.Mathlib.Omega.{arith}
 use lib.ListN.{length, take, drop}
-use Rattle.word.specs.Place.{putAt}
 use Rattle.word.proofs.Lists.{length-part, part-count, copied-whole}
 use Rattle.word.proofs.Put.{put-same, put-lent}
 use Rattle.jitter.specs.Steps.{windowOf}

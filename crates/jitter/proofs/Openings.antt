@@ -3,7 +3,6 @@ use Prim.Native.Nat.{ℕ}
 use mathlib.Core.Path.{_≡_, refl, sym, ap, _∙_}
 use mathlib.Core.Bool.{Bool, true, false, not, _&&_, true≢false}
 use mathlib.Core.List.{List}
-use lib.Dec.{eqb}
 use Rattle.word.specs.Place.{wordAt}
 use Rattle.word.proofs.Choices.{by-cond}
 use Rattle.word.proofs.Each.{each-keeps-until}
@@ -20,7 +19,7 @@ use Rattle.queue.specs.Queues.{queue}
 use Rattle.registers.specs.Places.{fmt, dmaOf}
 use Rattle.turn.specs.Turns.{openStreamOf, Turn, formattedOf, turnOf}
 use Rattle.device.specs.Machines.{Machine, Done, checkMachine, unchanged, finished, finishOf, answerOf, commandedOf, withCommanded}
-use Rattle.serve.specs.Serve.{runs, Turns, turnsOf, takenOf, turnAt, goesOn, serveOf}
+use Rattle.serve.specs.Serve.{runs, Turns, turnsOf, turnAt, goesOn, serveOf}
 use Rattle.advance.specs.Advance.{numberOf, servedOf, tickedOf, stillOf, afterCommands, advanceStep, advanceOf}
 use Rattle.jitter.specs.Bounds.{switchedOff}
 

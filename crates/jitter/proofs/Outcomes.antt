@@ -1,7 +1,7 @@
 -- What the call comes to: each refusal in order, and the answer from the streams' own parts of the lent spaces. Assumes nothing.
-use Prim.Native.Nat.{ℕ, zero, suc, _+_, _-_, _*_, _≤_, _<_, min, max}
-use mathlib.Core.Path.{_≡_, refl, sym, ap, _∙_, subst}
-use mathlib.Core.Bool.{Bool, true, false, _||_}
+use Prim.Native.Nat.{ℕ, zero, suc, _+_, _-_, _*_, _≤_, _<_}
+use mathlib.Core.Path.{_≡_, refl, sym, ap, _∙_}
+use mathlib.Core.Bool.{true, false, _||_}
 use mathlib.Core.List.{List}
 use native.Mathlib.Omega.{arith}
 use borrow.Author.Tests.{ne-eqb, lt-ltb, le-ltb, ltb-false}
@@ -24,16 +24,13 @@ use Rattle.device.specs.Devices.{streamAt}
 use Rattle.device.specs.Machines as machines
 use Rattle.device.specs.Machines.{Machine, machine, checkMachine}
 use Rattle.device.proofs.Checks.{room, passed}
-use Rattle.record.specs.Layout.{deviceSize}
-use Rattle.record.specs.Loads.{deviceAt, isDevice}
-use Rattle.calls.proofs.Devices.{Stands, check-stands, stands-check, part-size}
+use Rattle.record.specs.Loads.{deviceAt}
+use Rattle.calls.proofs.Devices.{Stands, check-stands, stands-check}
 use Rattle.counts.specs.Counts.{Pending, Copied}
 use Rattle.counts.proofs.Agree.{agree-refl}
-use Rattle.counts.proofs.Lists.{pending-refl}
 use Rattle.jitter.specs.declared.Spread.{Spread}
-use Rattle.jitter.specs.declared.Bounded.{Bounded}
-use Rattle.jitter.specs.Bounds.{withoutSwitches, switchedOff, countOf, leastOf, greatestOf, lowestOf, highestOf}
-use Rattle.jitter.specs.Calls.{Scratch, scratch, clearedOf, rowSize, resultSize, shortOf, numberOf, rowsOf, resultOf, Bounding, boundingOf, boundedOf, boundsOf}
+use Rattle.jitter.specs.Bounds.{withoutSwitches, switchedOff, countOf, lowestOf, highestOf}
+use Rattle.jitter.specs.Calls.{Scratch, scratch, clearedOf, rowSize, resultSize, shortOf, numberOf, rowsOf, resultOf, boundingOf, boundedOf, boundsOf}
 use Rattle.jitter.specs.Steps.{CaseNeeds, SpreadNeeds, SpreadOf}
 use Rattle.jitter.proofs.Ranges.{least-same, greatest-same}
 use Rattle.jitter.proofs.Walks.{own-lists, same-counts}

@@ -1,14 +1,12 @@
 -- The answer: what T-13 asks of it, and the walk over runs of times with as many frames to move, one call of `advance` for each. Assumes nothing.
-use Prim.Native.Nat.{ℕ, zero, suc, _+_, _-_, _*_, _/_, _≤_, _<_, min, max}
-use mathlib.Core.Path.{_≡_, refl, sym, ap, _∙_}
+use Prim.Native.Nat.{ℕ, suc, _+_, _-_, _≤_, _<_, min, max}
+use mathlib.Core.Path.{_≡_, refl, sym}
 use mathlib.Core.Bool.{Bool, true, false}
-use mathlib.Core.List.{List}
 use native.Mathlib.Nat.{mul-le-mul-right}
 use native.Mathlib.Omega.{arith}
 use lib.ListN.{length}
 use Rattle.word.specs.Place.{wordAt}
 use Rattle.word.specs.Parts.{partOf}
-use Rattle.clock.specs.Billionths.{billion, totalOf}
 use Rattle.clock.proofs.Theorems.{accrue-whole}
 use Rattle.format.specs.declared.Format.{Format}
 use Rattle.format.specs.declared.Format.the-variants.{Unsupported, Rate}

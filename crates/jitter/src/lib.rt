@@ -217,7 +217,7 @@ fn pending(device: &[u8], lists: &[u8], into: &mut [u8])
     }
 }
 
-// The scratch of one case.
+// The scratch of one case: `lists2`, `queues2` and `memory2`, here and below.
 fn fill(
     device: &[u8],
     lists: &[u8],
@@ -489,7 +489,7 @@ fn bounds_step(
     clear(lists2, queues2, memory2);
 }
 
-// The lowest and the highest submitted count of each stream after `advance` by any time from `shortest` to `longest`, into the lent space. The last three but one are scratch.
+// The lowest and the highest submitted count of each stream after `advance` by any time from `shortest` to `longest`, into the lent space.
 pub fn bounds(
     device: &[u8],
     host: Host,

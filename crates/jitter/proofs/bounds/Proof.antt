@@ -11,12 +11,6 @@ use Rattle.jitter.proofs.Outcomes.{refused-check, refused-times, refuse
 use borrow.Author.Needs.{needs}
 use Rattle.jitter.proofs.bounds.Statement.{statement}
 use Rattle.jitter.proofs.bounds.Tie as tie
-use Rattle.jitter.proofs.bounds.Reads as reads
-use Rattle.jitter.proofs.bounds.Lts as lts
-use Rattle.jitter.proofs.answer.Reads as answer-reads
-use Rattle.jitter.proofs.bounds_step.Reads as bounds-step-reads
-use Rattle.jitter.proofs.is_short.Reads as is-short-reads
-use Rattle.read.proofs.check.Reads as check-reads
 
 -- places and facts further back, from nearer places
 abbrev start-before : tie.After-check → tie.Start
@@ -37,15 +31,6 @@ zero-before c = omega arith
 order-before : (c : tie.Else3) → start-before (checked-before (search)) .args .shortest ≤ start-before (checked-before (search)) .args .longest
 order-before c = omega arith
 
--- src/lib.rt:509:9
-check-requires : tie.Need-check-requires
-check-requires c κs = search needs
-
--- src/lib.rt:511:9
-answer-requires : tie.Need-answer-requires
-answer-requires c κs = search needs
-
--- src/lib.rt:511:9
 returns : tie.Need-returns
 returns c =
     let checked : tie.After-check = search in
@@ -57,11 +42,6 @@ returns c =
     ap (λ (b : Bounded). boundingOf b s into) (c .answer .ensures)
     ∙ refused-check (a .shortest) (a .longest) x s into (checked .check .result) (checked .check .ensures) (λ z. omega arith)
 
--- src/lib.rt:514:9
-answer-requires-2 : tie.Need-answer-requires-2
-answer-requires-2 c κs = search needs
-
--- src/lib.rt:514:9
 returns-2 : tie.Need-returns-2
 returns-2 c =
     let checked : tie.After-check = search in
@@ -73,15 +53,6 @@ returns-2 c =
     let none : checked .check .result ≡ 0 = omega arith in
     ap (λ (b : Bounded). boundingOf b s into) (c .answer2 .ensures) ∙ refused-times (a .shortest) (a .longest) x s into (sym (checked .check .ensures) ∙ none) (omega arith)
 
--- src/lib.rt:516:8
-is-short-requires : tie.Need-is-short-requires
-is-short-requires c κs = search needs
-
--- src/lib.rt:523:9
-answer-requires-3 : tie.Need-answer-requires-3
-answer-requires-3 c κs = search needs
-
--- src/lib.rt:523:9
 returns-3 : tie.Need-returns-3
 returns-3 c =
     let asked : tie.After-is-short = search in
@@ -96,7 +67,6 @@ returns-3 c =
     ap (λ (b : Bounded). boundingOf b s into) (c .answer3 .ensures)
     ∙ refused-space (a .shortest) (a .longest) x s into (sym (checked .check .ensures) ∙ none) (omega arith) (sym (asked .is-short .ensures) ∙ short .if3 .taken)
 
--- src/lib.rt:525:5
 bounds-step-requires : tie.Need-bounds-step-requires
 bounds-step-requires c κs =
     let asked : tie.After-is-short = search in
@@ -113,31 +83,6 @@ bounds-step-requires c κs =
       record { sized = start .pre .0; device = start .pre .1; passes = sym (checked .check .ensures) ∙ none; lists = room .0; queues = room .1; memory = room .2 },
     )
 
--- src/lib.rt:538:23
-cast-answer : tie.Need-cast-answer
-cast-answer c = search needs
-
--- src/lib.rt:538:5
-answer-requires-4 : tie.Need-answer-requires-4
-answer-requires-4 c κs = search needs
-
--- src/lib.rt:493:1
-same-length : tie.Need-same-length
-same-length c = search needs
-
--- src/lib.rt:493:1
-same-length-2 : tie.Need-same-length-2
-same-length-2 c = search needs
-
--- src/lib.rt:493:1
-same-length-3 : tie.Need-same-length-3
-same-length-3 c = search needs
-
--- src/lib.rt:493:1
-same-length-4 : tie.Need-same-length-4
-same-length-4 c = search needs
-
--- src/lib.rt:493:1
 returns-4 : tie.Need-returns-4
 returns-4 c =
     let stepped : tie.After-bounds-step = search in
@@ -161,19 +106,19 @@ pub bounds-spec : {M : Type 1} → statement M
 bounds-spec =
     tie.close
     (tie.spec
-    check-requires
-    answer-requires
+    (λ c κs. search needs)
+    (λ c κs. search needs)
     returns
-    answer-requires-2
+    (λ c κs. search needs)
     returns-2
-    is-short-requires
-    answer-requires-3
+    (λ c κs. search needs)
+    (λ c κs. search needs)
     returns-3
     bounds-step-requires
-    cast-answer
-    answer-requires-4
-    same-length
-    same-length-2
-    same-length-3
-    same-length-4
+    (λ c. search needs)
+    (λ c κs. search needs)
+    (λ c. search needs)
+    (λ c. search needs)
+    (λ c. search needs)
+    (λ c. search needs)
     returns-4)

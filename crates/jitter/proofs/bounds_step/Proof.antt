@@ -1,50 +1,16 @@
 -- `bounds_step` meets its contract. Assumes nothing.
-use mathlib.Core.Path.{_≡_, _∙_}
+use mathlib.Core.Path.{_∙_}
 use Rattle.device.specs.Machines.{machine}
 use Rattle.record.specs.Loads.{deviceAt}
 use Rattle.jitter.proofs.Outcomes.{cleared-same, result-put}
 use borrow.Author.Needs.{needs}
 use Rattle.jitter.proofs.bounds_step.Statement.{statement}
 use Rattle.jitter.proofs.bounds_step.Tie as tie
-use Rattle.jitter.proofs.bounds_step.Reads as reads
-use Rattle.jitter.proofs.bounds_step.Lts as lts
-use Rattle.jitter.proofs.clear.Reads as clear-reads
-use Rattle.jitter.proofs.put_result.Reads as put-result-reads
-use Rattle.jitter.proofs.spread_of.Reads as spread-of-reads
 
 -- the first place, from a nearer one
 abbrev start-before : tie.After-spread-of → tie.Start
 start-before c = search
 
--- src/lib.rt:476:9
-spread-of-requires : tie.Need-spread-of-requires
-spread-of-requires c κs = search needs
-
--- src/lib.rt:488:5
-put-result-requires : tie.Need-put-result-requires
-put-result-requires c κs = search needs
-
--- src/lib.rt:489:5
-clear-requires : tie.Need-clear-requires
-clear-requires c κs = search needs
-
--- src/lib.rt:458:1
-same-length : tie.Need-same-length
-same-length c = search needs
-
--- src/lib.rt:458:1
-same-length-2 : tie.Need-same-length-2
-same-length-2 c = search needs
-
--- src/lib.rt:458:1
-same-length-3 : tie.Need-same-length-3
-same-length-3 c = search needs
-
--- src/lib.rt:458:1
-same-length-4 : tie.Need-same-length-4
-same-length-4 c = search needs
-
--- src/lib.rt:458:1
 returns : tie.Need-returns
 returns c =
     let zeroed : tie.After-clear = search in
@@ -64,11 +30,11 @@ pub bounds-step-spec : {M : Type 1} → statement M
 bounds-step-spec =
     tie.close
     (tie.spec
-    spread-of-requires
-    put-result-requires
-    clear-requires
-    same-length
-    same-length-2
-    same-length-3
-    same-length-4
+    (λ c κs. search needs)
+    (λ c κs. search needs)
+    (λ c κs. search needs)
+    (λ c. search needs)
+    (λ c. search needs)
+    (λ c. search needs)
+    (λ c. search needs)
     returns)

@@ -8,10 +8,6 @@ use Rattle.jitter.proofs.Cases.{case-done}
 use borrow.Author.Needs.{needs}
 use Rattle.jitter.proofs.case.Statement.{statement}
 use Rattle.jitter.proofs.case.Tie as tie
-use Rattle.jitter.proofs.case.Reads as reads
-use Rattle.jitter.proofs.case.Lts as lts
-use Rattle.jitter.proofs.fill.Reads as fill-reads
-use Rattle.jitter.proofs.run.Reads as run-reads
 
 -- the first places, from a nearer one
 abbrev known-before : tie.After-fill → tie.After-shared-slice-known
@@ -20,27 +16,6 @@ known-before c = search
 abbrev start-before : tie.After-fill → tie.Start
 start-before c = search
 
--- src/lib.rt:284:5
-fill-requires : tie.Need-fill-requires
-fill-requires c κs = search needs
-
--- src/lib.rt:285:5
-run-requires : tie.Need-run-requires
-run-requires c κs = search needs
-
--- src/lib.rt:270:1
-same-length : tie.Need-same-length
-same-length c = search needs
-
--- src/lib.rt:270:1
-same-length-2 : tie.Need-same-length-2
-same-length-2 c = search needs
-
--- src/lib.rt:270:1
-same-length-3 : tie.Need-same-length-3
-same-length-3 c = search needs
-
--- src/lib.rt:270:1
 returns : tie.Need-returns
 returns c =
     let ran : tie.After-run = search in
@@ -57,4 +32,4 @@ returns c =
 
 pub case-spec : {M : Type 1} → statement M
 case-spec =
-    tie.close (tie.spec fill-requires run-requires same-length same-length-2 same-length-3 returns)
+    tie.close (tie.spec (λ c κs. search needs) (λ c κs. search needs) (λ c. search needs) (λ c. search needs) (λ c. search needs) returns)

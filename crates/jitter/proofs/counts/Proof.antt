@@ -9,9 +9,6 @@ use Rattle.jitter.proofs.Cases.{row-turn, count-loaded}
 use borrow.Author.Needs.{needs}
 use Rattle.jitter.proofs.counts.Statement.{statement}
 use Rattle.jitter.proofs.counts.Tie as tie
-use Rattle.jitter.proofs.counts.Reads as reads
-use Rattle.jitter.proofs.counts.Lts as lts
-use Rattle.record.proofs.load_stream.Reads as load-stream-reads
 
 abbrev Inv-loop : tie.InvT-loop
 Inv-loop device found₀ count index₀ found index =
@@ -20,39 +17,9 @@ Inv-loop device found₀ count index₀ found index =
 abbrev μ-loop : tie.MeasureT-loop
 μ-loop device found₀ count index₀ found index = count - index
 
--- src/lib.rt:244:5
 loop-holds : tie.Need-loop-holds Inv-loop μ-loop
 loop-holds c = (omega arith, refl, λ j h. absurd (omega arith))
 
--- src/lib.rt:245:60
-mul-load-stream : tie.Need-mul-load-stream Inv-loop μ-loop
-mul-load-stream c = search needs
-
--- src/lib.rt:245:45
-add-load-stream : tie.Need-add-load-stream Inv-loop μ-loop
-add-load-stream c = search needs
-
--- src/lib.rt:245:13
-load-stream-requires : tie.Need-load-stream-requires Inv-loop μ-loop
-load-stream-requires c κs = search needs
-
--- src/lib.rt:246:9
-mul-found : tie.Need-mul-found Inv-loop μ-loop
-mul-found c = search needs
-
--- src/lib.rt:246:9
-array-write-found : tie.Need-array-write-found Inv-loop μ-loop
-array-write-found c = search needs
-
--- src/lib.rt:247:9
-add-index : tie.Need-add-index Inv-loop μ-loop
-add-index c = search needs
-
--- src/lib.rt:244:5
-loop-less : tie.Need-loop-less Inv-loop μ-loop
-loop-less c = search needs
-
--- src/lib.rt:244:5
 loop-again : tie.Need-loop-again Inv-loop μ-loop
 loop-again c =
     let head : tie.At-loop Inv-loop μ-loop = search in
@@ -65,7 +32,6 @@ loop-again c =
       row-turn (λ (i : ℕ). streamAt (deviceAt d) i .submitted) (l .found) (l .index) (s .result .submitted) (omega arith) (l .inv .1) (count-loaded d (l .index) (s .result) (omega arith) (s .ensures)) (l .inv .2),
     )
 
--- src/lib.rt:237:1
 returns : tie.Need-returns Inv-loop μ-loop
 returns c =
     let head : tie.At-loop Inv-loop μ-loop = search in record { each = λ i few. head .loop .inv .2 i (omega arith) }
@@ -77,12 +43,12 @@ counts-spec =
     Inv-loop
     μ-loop
     loop-holds
-    mul-load-stream
-    add-load-stream
-    load-stream-requires
-    mul-found
-    array-write-found
-    add-index
-    loop-less
+    (λ c. search needs)
+    (λ c. search needs)
+    (λ c κs. search needs)
+    (λ c. search needs)
+    (λ c. search needs)
+    (λ c. search needs)
+    (λ c. search needs)
     loop-again
     returns)

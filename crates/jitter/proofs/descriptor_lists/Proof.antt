@@ -1,7 +1,6 @@
 -- `descriptor_lists` meets its contract. The invariant: the windows from `index` on make of it what all of them make of it as it was. Assumes nothing.
 use Prim.Native.Nat.{ℕ, _+_, _-_}
 use mathlib.Core.Path.{_≡_, refl, sym, ap, _∙_}
-use mathlib.Core.List.{List}
 use lib.ListN.{length}
 use Rattle.word.specs.Each.{always, eachOf}
 use Rattle.word.proofs.Each.{each-step, each-end}
@@ -11,10 +10,6 @@ use Rattle.jitter.specs.Steps.{windowOf, windowsOf}
 use borrow.Author.Needs.{needs}
 use Rattle.jitter.proofs.descriptor_lists.Statement.{statement}
 use Rattle.jitter.proofs.descriptor_lists.Tie as tie
-use Rattle.jitter.proofs.descriptor_lists.Reads as reads
-use Rattle.jitter.proofs.descriptor_lists.Lts as lts
-use Rattle.jitter.proofs.base.Reads as base-reads
-use Rattle.jitter.proofs.window.Reads as window-reads
 
 abbrev Inv-loop : tie.InvT-loop
 Inv-loop regs memory into₀ count index₀ into index =
@@ -24,39 +19,9 @@ Inv-loop regs memory into₀ count index₀ into index =
 abbrev μ-loop : tie.MeasureT-loop
 μ-loop regs memory into₀ count index₀ into index = count - index
 
--- src/lib.rt:177:5
 loop-holds : tie.Need-loop-holds Inv-loop μ-loop
 loop-holds c = (refl, streams, refl, refl)
 
--- src/lib.rt:180:38
-mul-base : tie.Need-mul-base Inv-loop μ-loop
-mul-base c = search needs
-
--- src/lib.rt:180:13
-add-base : tie.Need-add-base Inv-loop μ-loop
-add-base c = search needs
-
--- src/lib.rt:180:13
-add-base-2 : tie.Need-add-base-2 Inv-loop μ-loop
-add-base-2 c = search needs
-
--- src/lib.rt:178:13
-base-requires : tie.Need-base-requires Inv-loop μ-loop
-base-requires c κs = search needs
-
--- src/lib.rt:182:9
-window-requires : tie.Need-window-requires Inv-loop μ-loop
-window-requires c κs = search needs
-
--- src/lib.rt:183:9
-add-index : tie.Need-add-index Inv-loop μ-loop
-add-index c = search needs
-
--- src/lib.rt:177:5
-loop-less : tie.Need-loop-less Inv-loop μ-loop
-loop-less c = search needs
-
--- src/lib.rt:177:5
 loop-again : tie.Need-loop-again Inv-loop μ-loop
 loop-again c =
     let window : tie.After-window Inv-loop μ-loop = search in
@@ -73,11 +38,6 @@ loop-again c =
     let k = each-step always (λ (i : ℕ). windowOf m (listAt r i) listWindow) streams (l .index) (l .inv .1) (l .into) into (l .inv .2) (body .loop-test .taken) put refl in
     (w .kept .1 .1 .1 .0 ∙ l .inv .0, k .0, k .1, sym (k .2) ∙ l .inv .3)
 
--- src/lib.rt:171:1
-same-length : tie.Need-same-length Inv-loop μ-loop
-same-length c = search needs
-
--- src/lib.rt:171:1
 returns : tie.Need-returns Inv-loop μ-loop
 returns c =
     let head : tie.At-loop Inv-loop μ-loop = search in
@@ -94,13 +54,13 @@ descriptor-lists-spec =
     Inv-loop
     μ-loop
     loop-holds
-    mul-base
-    add-base
-    add-base-2
-    base-requires
-    window-requires
-    add-index
-    loop-less
+    (λ c. search needs)
+    (λ c. search needs)
+    (λ c. search needs)
+    (λ c κs. search needs)
+    (λ c κs. search needs)
+    (λ c. search needs)
+    (λ c. search needs)
     loop-again
-    same-length
+    (λ c. search needs)
     returns)

@@ -1,7 +1,6 @@
 -- `pending` meets its contract. The invariant: the windows from `index` on make of it what all of them make of it as it was. Assumes nothing.
 use Prim.Native.Nat.{ℕ, _+_, _-_, _*_}
 use mathlib.Core.Path.{_≡_, refl, sym, ap, _∙_}
-use mathlib.Core.List.{List}
 use native.Mathlib.Omega.{arith}
 use lib.ListN.{length}
 use Rattle.word.specs.Each.{always, eachOf}
@@ -16,10 +15,6 @@ use Rattle.jitter.specs.Steps.{windowOf, windowsOf, pendingOf}
 use borrow.Author.Needs.{needs}
 use Rattle.jitter.proofs.pending.Statement.{statement}
 use Rattle.jitter.proofs.pending.Tie as tie
-use Rattle.jitter.proofs.pending.Reads as reads
-use Rattle.jitter.proofs.pending.Lts as lts
-use Rattle.jitter.proofs.window.Reads as window-reads
-use Rattle.record.proofs.load_stream.Reads as load-stream-reads
 
 abbrev Inv-loop : tie.InvT-loop
 Inv-loop device lists into₀ count index₀ into index =
@@ -29,47 +24,9 @@ Inv-loop device lists into₀ count index₀ into index =
 abbrev μ-loop : tie.MeasureT-loop
 μ-loop device lists into₀ count index₀ into index = count - index
 
--- src/lib.rt:204:5
 loop-holds : tie.Need-loop-holds Inv-loop μ-loop
 loop-holds c = (refl, streams, refl, refl)
 
--- src/lib.rt:205:60
-mul-load-stream : tie.Need-mul-load-stream Inv-loop μ-loop
-mul-load-stream c = search needs
-
--- src/lib.rt:205:45
-add-load-stream : tie.Need-add-load-stream Inv-loop μ-loop
-add-load-stream c = search needs
-
--- src/lib.rt:205:13
-load-stream-requires : tie.Need-load-stream-requires Inv-loop μ-loop
-load-stream-requires c κs = search needs
-
--- src/lib.rt:208:14
-mul-window : tie.Need-mul-window Inv-loop μ-loop
-mul-window c = search needs
-
--- src/lib.rt:209:18
-cast-window : tie.Need-cast-window Inv-loop μ-loop
-cast-window c = search needs
-
--- src/lib.rt:209:13
-mul-window-2 : tie.Need-mul-window-2 Inv-loop μ-loop
-mul-window-2 c = search needs
-
--- src/lib.rt:206:9
-window-requires : tie.Need-window-requires Inv-loop μ-loop
-window-requires c κs = search needs
-
--- src/lib.rt:212:9
-add-index : tie.Need-add-index Inv-loop μ-loop
-add-index c = search needs
-
--- src/lib.rt:204:5
-loop-less : tie.Need-loop-less Inv-loop μ-loop
-loop-less c = search needs
-
--- src/lib.rt:204:5
 loop-again : tie.Need-loop-again Inv-loop μ-loop
 loop-again c =
     let window : tie.After-window Inv-loop μ-loop = search in
@@ -88,11 +45,6 @@ loop-again c =
     let k = each-step always (λ (i : ℕ). windowOf lists (listSize * i) (8 * streamAt (deviceAt d) i .pending)) streams (l .index) (l .inv .1) (l .into) into (l .inv .2) (body .loop-test .taken) put refl in
     (w .kept .1 .1 .1 .0 ∙ l .inv .0, k .0, k .1, sym (k .2) ∙ l .inv .3)
 
--- src/lib.rt:198:1
-same-length : tie.Need-same-length Inv-loop μ-loop
-same-length c = search needs
-
--- src/lib.rt:198:1
 returns : tie.Need-returns Inv-loop μ-loop
 unfolding pendingOf
 returns c =
@@ -110,15 +62,15 @@ pending-spec =
     Inv-loop
     μ-loop
     loop-holds
-    mul-load-stream
-    add-load-stream
-    load-stream-requires
-    mul-window
-    cast-window
-    mul-window-2
-    window-requires
-    add-index
-    loop-less
+    (λ c. search needs)
+    (λ c. search needs)
+    (λ c κs. search needs)
+    (λ c. search needs)
+    (λ c. search needs)
+    (λ c. search needs)
+    (λ c κs. search needs)
+    (λ c. search needs)
+    (λ c. search needs)
     loop-again
-    same-length
+    (λ c. search needs)
     returns)

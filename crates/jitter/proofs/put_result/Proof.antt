@@ -12,9 +12,6 @@ use Rattle.jitter.specs.Calls.{rowSize}
 use borrow.Author.Needs.{needs}
 use Rattle.jitter.proofs.put_result.Statement.{statement}
 use Rattle.jitter.proofs.put_result.Tie as tie
-use Rattle.jitter.proofs.put_result.Reads as reads
-use Rattle.jitter.proofs.put_result.Lts as lts
-use Rattle.word.proofs.put64.Reads as put64-reads
 
 -- a stream's two counts
 abbrev row : Spread → ℕ → List ℕ → List ℕ
@@ -27,55 +24,9 @@ Inv-loop into₀ spread count index₀ into index =
 abbrev μ-loop : tie.MeasureT-loop
 μ-loop into₀ spread count index₀ into index = count - index
 
--- src/lib.rt:426:5
 loop-holds : tie.Need-loop-holds Inv-loop μ-loop
 loop-holds c = (refl, streams, refl, refl)
 
--- src/lib.rt:427:19
-mul-low : tie.Need-mul-low Inv-loop μ-loop
-mul-low c = search needs
-
--- src/lib.rt:427:19
-element-copy-out-low : tie.Need-element-copy-out-low Inv-loop μ-loop
-element-copy-out-low c = search needs
-
--- src/lib.rt:428:20
-mul-high : tie.Need-mul-high Inv-loop μ-loop
-mul-high c = search needs
-
--- src/lib.rt:428:20
-element-copy-out-high : tie.Need-element-copy-out-high Inv-loop μ-loop
-element-copy-out-high c = search needs
-
--- src/lib.rt:429:27
-mul-put64 : tie.Need-mul-put64 Inv-loop μ-loop
-mul-put64 c = search needs
-
--- src/lib.rt:429:9
-put64-requires : tie.Need-put64-requires Inv-loop μ-loop
-put64-requires c κs = search needs
-
--- src/lib.rt:430:27
-mul-put64-2 : tie.Need-mul-put64-2 Inv-loop μ-loop
-mul-put64-2 c = search needs
-
--- src/lib.rt:430:27
-add-put64 : tie.Need-add-put64 Inv-loop μ-loop
-add-put64 c = search needs
-
--- src/lib.rt:430:9
-put64-requires-2 : tie.Need-put64-requires-2 Inv-loop μ-loop
-put64-requires-2 c κs = search needs
-
--- src/lib.rt:431:9
-add-index : tie.Need-add-index Inv-loop μ-loop
-add-index c = search needs
-
--- src/lib.rt:426:5
-loop-less : tie.Need-loop-less Inv-loop μ-loop
-loop-less c = search needs
-
--- src/lib.rt:426:5
 loop-again : tie.Need-loop-again Inv-loop μ-loop
 loop-again c =
     let second : tie.After-put642 Inv-loop μ-loop = search in
@@ -92,11 +43,6 @@ loop-again c =
     let k = each-step always (row r) streams (l .index) (l .inv .1) (l .into) into (l .inv .2) (body .loop-test .taken) put refl in
     (high .kept .0 ∙ low .kept .0 ∙ l .inv .0, k .0, k .1, sym (k .2) ∙ l .inv .3)
 
--- src/lib.rt:420:1
-same-length : tie.Need-same-length Inv-loop μ-loop
-same-length c = search needs
-
--- src/lib.rt:420:1
 returns : tie.Need-returns Inv-loop μ-loop
 returns c =
     let head : tie.At-loop Inv-loop μ-loop = search in
@@ -111,17 +57,17 @@ put-result-spec =
     Inv-loop
     μ-loop
     loop-holds
-    mul-low
-    element-copy-out-low
-    mul-high
-    element-copy-out-high
-    mul-put64
-    put64-requires
-    mul-put64-2
-    add-put64
-    put64-requires-2
-    add-index
-    loop-less
+    (λ c. search needs)
+    (λ c. search needs)
+    (λ c. search needs)
+    (λ c. search needs)
+    (λ c. search needs)
+    (λ c κs. search needs)
+    (λ c. search needs)
+    (λ c. search needs)
+    (λ c κs. search needs)
+    (λ c. search needs)
+    (λ c. search needs)
     loop-again
-    same-length
+    (λ c. search needs)
     returns)

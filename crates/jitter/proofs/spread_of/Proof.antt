@@ -1,7 +1,6 @@
 -- `spread_of` meets its contract: what the streams' own parts give is what the whole spaces give. Assumes nothing.
-use Prim.Native.Nat.{ℕ, _-_, _*_}
-use mathlib.Core.Path.{_≡_, sym, _∙_, subst}
-use mathlib.Core.List.{List}
+use Prim.Native.Nat.{_-_, _*_}
+use mathlib.Core.Path.{sym, _∙_, subst}
 use native.Mathlib.Omega.{arith}
 use lib.ListN.{length, take}
 use lib.Seq.{length-take-le}
@@ -18,10 +17,6 @@ use Rattle.jitter.proofs.Outcomes.{needs-long, case-needs, spread-whole
 use borrow.Author.Needs.{needs}
 use Rattle.jitter.proofs.spread_of.Statement.{statement}
 use Rattle.jitter.proofs.spread_of.Tie as tie
-use Rattle.jitter.proofs.spread_of.Reads as reads
-use Rattle.jitter.proofs.spread_of.Lts as lts
-use Rattle.jitter.proofs.switched_off.Reads as switched-off-reads
-use Rattle.jitter.proofs.walk.Reads as walk-reads
 
 -- the first places, from a nearer one
 abbrev known-before : tie.After-switched-off → tie.After-shared-slice-known
@@ -30,77 +25,18 @@ known-before c = search
 abbrev start-before : tie.After-switched-off → tie.Start
 start-before c = search
 
--- src/lib.rt:407:9
-switched-off-requires : tie.Need-switched-off-requires
-switched-off-requires c κs = search needs
-
--- src/lib.rt:408:9
-sub-walk : tie.Need-sub-walk
-sub-walk c = search needs
-
--- src/lib.rt:408:9
-part-walk-start : tie.Need-part-walk-start
-part-walk-start c = search needs
-
--- src/lib.rt:408:9
 part-walk-end : tie.Need-part-walk-end
 part-walk-end c =
     let start = start-before (search) in
     let a = start .args in
     omega (arith, needs-long _ (a .device .now) (a .lists2 .now) (a .queues2 .now) (a .memory2 .now) (start .pre .1) .0)
 
--- src/lib.rt:409:9
-sub-walk-2 : tie.Need-sub-walk-2
-sub-walk-2 c = search needs
-
--- src/lib.rt:409:9
-part-walk-start-2 : tie.Need-part-walk-start-2
-part-walk-start-2 c = search needs
-
--- src/lib.rt:409:9
 part-walk-end-2 : tie.Need-part-walk-end-2
 part-walk-end-2 c =
     let start = start-before (search) in
     let a = start .args in
     omega (arith, needs-long _ (a .device .now) (a .lists2 .now) (a .queues2 .now) (a .memory2 .now) (start .pre .1) .1)
 
--- src/lib.rt:411:9
-sub-walk-3 : tie.Need-sub-walk-3
-sub-walk-3 c = search needs
-
--- src/lib.rt:411:9
-part-walk-start-3 : tie.Need-part-walk-start-3
-part-walk-start-3 c = search needs
-
--- src/lib.rt:411:9
-part-walk-end-3 : tie.Need-part-walk-end-3
-part-walk-end-3 c = search needs
-
--- src/lib.rt:412:9
-sub-walk-4 : tie.Need-sub-walk-4
-sub-walk-4 c = search needs
-
--- src/lib.rt:412:9
-part-walk-start-4 : tie.Need-part-walk-start-4
-part-walk-start-4 c = search needs
-
--- src/lib.rt:412:9
-part-walk-end-4 : tie.Need-part-walk-end-4
-part-walk-end-4 c = search needs
-
--- src/lib.rt:413:9
-sub-walk-5 : tie.Need-sub-walk-5
-sub-walk-5 c = search needs
-
--- src/lib.rt:413:9
-part-walk-start-5 : tie.Need-part-walk-start-5
-part-walk-start-5 c = search needs
-
--- src/lib.rt:413:9
-part-walk-end-5 : tie.Need-part-walk-end-5
-part-walk-end-5 c = search needs
-
--- src/lib.rt:405:5
 walk-requires : tie.Need-walk-requires
 walk-requires c κs =
     let off : tie.After-switched-off = search in
@@ -118,19 +54,6 @@ walk-requires c κs =
           (length-take-le (listSize * streams) (a .lists2 .now) (n .lists)) (length-take-le (capacity * streams) (a .queues2 .now) (n .queues)) (length-take-le (length (a .memory .now) - 0) (a .memory2 .now) (omega (arith, n .memory)) ∙ omega arith)),
     )
 
--- src/lib.rt:388:1
-same-length : tie.Need-same-length
-same-length c = search needs
-
--- src/lib.rt:388:1
-same-length-2 : tie.Need-same-length-2
-same-length-2 c = search needs
-
--- src/lib.rt:388:1
-same-length-3 : tie.Need-same-length-3
-same-length-3 c = search needs
-
--- src/lib.rt:388:1
 returns : tie.Need-returns
 returns c =
     let walked : tie.After-walk = search in
@@ -151,24 +74,24 @@ pub spread-of-spec : {M : Type 1} → statement M
 spread-of-spec =
     tie.close
     (tie.spec
-    switched-off-requires
-    sub-walk
-    part-walk-start
+    (λ c κs. search needs)
+    (λ c. search needs)
+    (λ c. search needs)
     part-walk-end
-    sub-walk-2
-    part-walk-start-2
+    (λ c. search needs)
+    (λ c. search needs)
     part-walk-end-2
-    sub-walk-3
-    part-walk-start-3
-    part-walk-end-3
-    sub-walk-4
-    part-walk-start-4
-    part-walk-end-4
-    sub-walk-5
-    part-walk-start-5
-    part-walk-end-5
+    (λ c. search needs)
+    (λ c. search needs)
+    (λ c. search needs)
+    (λ c. search needs)
+    (λ c. search needs)
+    (λ c. search needs)
+    (λ c. search needs)
+    (λ c. search needs)
+    (λ c. search needs)
     walk-requires
-    same-length
-    same-length-2
-    same-length-3
+    (λ c. search needs)
+    (λ c. search needs)
+    (λ c. search needs)
     returns)

@@ -1,9 +1,8 @@
 -- `walk` meets its contract. The invariant: up to `last`, the numbers are the answer. Assumes nothing.
-use Prim.Native.Nat.{ℕ, _-_, _≤_, _<_}
-use mathlib.Core.Path.{_≡_, refl, _∙_}
+use Prim.Native.Nat.{_-_, _≤_}
+use mathlib.Core.Path.{_≡_, refl}
 use native.Mathlib.Omega.{arith}
 use borrow.Author.Needs.{needs}
-use lib.ListN.{length}
 use Rattle.word.specs.Value.{Bytes}
 use Rattle.host.proofs.Held.{queues-held}
 use Rattle.device.specs.Machines.{machine}
@@ -12,11 +11,6 @@ use Rattle.jitter.specs.Steps.{CaseNeeds, SpreadOf}
 use Rattle.jitter.proofs.Cases.{needs-kept, spread-first, spread-next}
 use Rattle.jitter.proofs.walk.Statement.{statement}
 use Rattle.jitter.proofs.walk.Tie as tie
-use Rattle.jitter.proofs.walk.Reads as reads
-use Rattle.jitter.proofs.walk.Lts as lts
-use Rattle.jitter.proofs.case.Reads as case-reads
-use Rattle.jitter.proofs.last_same.Reads as last-same-reads
-use Rattle.jitter.proofs.widened.Reads as widened-reads
 
 abbrev Inv-loop : tie.InvT-loop
 Inv-loop device host lists queues memory lists2₀ queues2₀ memory2₀ shortest longest last₀ spread₀ lists2 queues2 memory2 last spread =
@@ -40,15 +34,6 @@ known-before-loop c = let l : tie.After-last-same Inv-loop μ-loop = search in k
 abbrev start-before-loop : tie.At-loop Inv-loop μ-loop → tie.Start Inv-loop μ-loop
 start-before-loop c = let l : tie.After-last-same Inv-loop μ-loop = search in start-before l
 
--- src/lib.rt:324:9
-last-same-requires : tie.Need-last-same-requires Inv-loop μ-loop
-last-same-requires c κs = search needs
-
--- src/lib.rt:325:9
-case-requires : tie.Need-case-requires Inv-loop μ-loop
-case-requires c κs = search needs
-
--- src/lib.rt:340:5
 loop-holds : tie.Need-loop-holds Inv-loop μ-loop
 loop-holds c =
     let ran : tie.After-case Inv-loop μ-loop = search in
@@ -68,27 +53,6 @@ loop-holds c =
           (l .result) _ (k .result) (l .ensures) (k .ensures) refl refl,
     )
 
--- src/lib.rt:341:18
-add-at : tie.Need-add-at Inv-loop μ-loop
-add-at c = search needs
-
--- src/lib.rt:342:13
-last-same-requires-2 : tie.Need-last-same-requires-2 Inv-loop μ-loop
-last-same-requires-2 c κs = search needs
-
--- src/lib.rt:343:13
-case-requires-2 : tie.Need-case-requires-2 Inv-loop μ-loop
-case-requires-2 c κs = search needs
-
--- src/lib.rt:354:9
-widened-requires : tie.Need-widened-requires Inv-loop μ-loop
-widened-requires c κs = search needs
-
--- src/lib.rt:340:5
-loop-less : tie.Need-loop-less Inv-loop μ-loop
-loop-less c = search needs
-
--- src/lib.rt:340:5
 loop-again : tie.Need-loop-again Inv-loop μ-loop
 loop-again c =
     let ran : tie.After-case2 Inv-loop μ-loop = search in
@@ -110,19 +74,6 @@ loop-again c =
           (c .widened .result) (k .result) (o .inv .1) (o .inv .3) (l .ensures) (k .ensures) (c .widened .ensures),
     )
 
--- src/lib.rt:308:1
-same-length : tie.Need-same-length Inv-loop μ-loop
-same-length c = search needs
-
--- src/lib.rt:308:1
-same-length-2 : tie.Need-same-length-2 Inv-loop μ-loop
-same-length-2 c = search needs
-
--- src/lib.rt:308:1
-same-length-3 : tie.Need-same-length-3 Inv-loop μ-loop
-same-length-3 c = search needs
-
--- src/lib.rt:308:1
 returns : tie.Need-returns Inv-loop μ-loop
 returns c =
     let head : tie.At-loop Inv-loop μ-loop = search in
@@ -137,16 +88,16 @@ walk-spec =
     (tie.spec
     Inv-loop
     μ-loop
-    last-same-requires
-    case-requires
+    (λ c κs. search needs)
+    (λ c κs. search needs)
     loop-holds
-    add-at
-    last-same-requires-2
-    case-requires-2
-    widened-requires
-    loop-less
+    (λ c. search needs)
+    (λ c κs. search needs)
+    (λ c κs. search needs)
+    (λ c κs. search needs)
+    (λ c. search needs)
     loop-again
-    same-length
-    same-length-2
-    same-length-3
+    (λ c. search needs)
+    (λ c. search needs)
+    (λ c. search needs)
     returns)

@@ -7,13 +7,6 @@ use Rattle.port_jitter.proofs.Outcomes.{unreadable, done}
 use borrow.Author.Needs.{needs}
 use Rattle.port_jitter.proofs.bounds.Statement.{statement}
 use Rattle.port_jitter.proofs.bounds.Tie as tie
-use Rattle.port_jitter.proofs.bounds.Reads as reads
-use Rattle.port_jitter.proofs.bounds.Lts as lts
-use Rattle.host_record.proofs.load_host.Reads as load-host-reads
-use Rattle.jitter.proofs.bounds.Reads as bounds-reads
-use Rattle.reply.proofs.is_machine.Reads as is-machine-reads
-use Rattle.reply.proofs.reply.Reads as reply-reads
-use Rattle.reply.proofs.unreadable.Reads as unreadable-reads
 
 -- places further back, from nearer ones
 abbrev start-before : tie.After-is-machine → tie.Start
@@ -28,15 +21,6 @@ read-before c = search
 abbrev asked-before : tie.After-load-host → tie.After-is-machine
 asked-before c = search
 
--- src/lib.rt:22:9
-is-machine-requires : tie.Need-is-machine-requires
-is-machine-requires c κs = search needs
-
--- src/lib.rt:23:9
-unreadable-requires : tie.Need-unreadable-requires
-unreadable-requires c κs = search needs
-
--- src/lib.rt:23:9
 returns : tie.Need-returns
 returns c =
     let refused : tie.Then1 = search in
@@ -46,7 +30,6 @@ returns c =
     unreadable (a .shortest) (a .longest) (a .device .now) (a .host .now) (a .lists .now) (a .queues .now) (a .memory .now) (scratch (a .lists2 .now) (a .queues2 .now) (a .memory2 .now)) (a .into .now) (c .unreadable .result)
     (sym (asked .is-machine .ensures) ∙ not-true _ (refused .if1 .taken)) (c .unreadable .ensures)
 
--- src/lib.rt:25:9
 load-host-requires : tie.Need-load-host-requires
 load-host-requires c κs =
     let read : tie.Else1 = search in
@@ -55,7 +38,6 @@ load-host-requires c κs =
     let a = start .args in
     host-fits (a .device .now) (a .host .now) (sym (asked .is-machine .ensures) ∙ not-false _ (read .if1 .left))
 
--- src/lib.rt:26:9
 bounds-requires : tie.Need-bounds-requires
 bounds-requires c κs =
     let read : tie.Else1 = search in
@@ -65,27 +47,6 @@ bounds-requires c κs =
     let is = sym (asked .is-machine .ensures) ∙ not-false _ (read .if1 .left) in
     (device-sized (a .device .now) (a .host .now) is, machine-device (a .device .now) (a .host .now) is)
 
--- src/lib.rt:29:5
-reply-requires : tie.Need-reply-requires
-reply-requires c κs = search needs
-
--- src/lib.rt:7:1
-same-length : tie.Need-same-length
-same-length c = search needs
-
--- src/lib.rt:7:1
-same-length-2 : tie.Need-same-length-2
-same-length-2 c = search needs
-
--- src/lib.rt:7:1
-same-length-3 : tie.Need-same-length-3
-same-length-3 c = search needs
-
--- src/lib.rt:7:1
-same-length-4 : tie.Need-same-length-4
-same-length-4 c = search needs
-
--- src/lib.rt:7:1
 returns-2 : tie.Need-returns-2
 returns-2 c =
     let called : tie.After-bounds = search in
@@ -103,14 +64,14 @@ pub bounds-spec : {M : Type 1} → statement M
 bounds-spec =
     tie.close
     (tie.spec
-    is-machine-requires
-    unreadable-requires
+    (λ c κs. search needs)
+    (λ c κs. search needs)
     returns
     load-host-requires
     bounds-requires
-    reply-requires
-    same-length
-    same-length-2
-    same-length-3
-    same-length-4
+    (λ c κs. search needs)
+    (λ c. search needs)
+    (λ c. search needs)
+    (λ c. search needs)
+    (λ c. search needs)
     returns-2)
