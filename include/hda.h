@@ -63,13 +63,16 @@ static inline int hda_sends_message(uint64_t reply) { return (int)(reply >> 9 & 
 /* Frames moved (hda_feed, hda_pull), bytes written (hda_save, hda_advance_bounds), or the register (hda_config_read); else 0. */
 static inline uint32_t hda_value(uint64_t reply) { return (uint32_t)(reply >> 32); }
 
-static inline uint64_t hda_message_address(const uint8_t device[HDA_DEVICE_BYTES])
+/* A word of 64 bits as it stands in the records and in results: lowest byte first. */
+static inline uint64_t hda_word_64(const uint8_t bytes[8])
 {
-    uint64_t address = 0;
+    uint64_t word = 0;
     for (int i = 7; i >= 0; i--)
-        address = address << 8 | device[6 + 0x64 + i];
-    return address;
+        word = word << 8 | bytes[i];
+    return word;
 }
+
+static inline uint64_t hda_message_address(const uint8_t device[HDA_DEVICE_BYTES]) { return hda_word_64(device + 6 + 0x64); }
 
 static inline uint32_t hda_message_data(const uint8_t device[HDA_DEVICE_BYTES])
 {
@@ -98,40 +101,16 @@ static inline uint32_t hda_rate(const uint8_t device[HDA_DEVICE_BYTES], const ui
 }
 
 /* The whole frames that are due in stream 0 or 1 and were not moved, at most 8,192: those of a playback whose queue is full wait for the host's pulls. */
-static inline uint64_t hda_deferred(const uint8_t device[HDA_DEVICE_BYTES], unsigned stream)
-{
-    uint64_t billionths = 0;
-    for (unsigned i = 8; stream <= 1 && i-- > 0;)
-        billionths = billionths << 8 | device[680 + 34 * stream + 22 + i];
-    return billionths / 1000000000;
-}
+static inline uint64_t hda_deferred(const uint8_t device[HDA_DEVICE_BYTES], unsigned stream) { return stream <= 1 ? hda_word_64(device + 680 + 34 * stream + 22) / 1000000000 : 0; }
 
 /* The count of bytes that stream 0 or 1 has submitted: written to guest memory by a capture, read from it by a playback. It begins at 0 with a reset, or where a restored state says. */
-static inline uint64_t hda_submitted(const uint8_t device[HDA_DEVICE_BYTES], unsigned stream)
-{
-    uint64_t bytes = 0;
-    for (unsigned i = 8; stream <= 1 && i-- > 0;)
-        bytes = bytes << 8 | device[680 + 34 * stream + 6 + i];
-    return bytes;
-}
+static inline uint64_t hda_submitted(const uint8_t device[HDA_DEVICE_BYTES], unsigned stream) { return stream <= 1 ? hda_word_64(device + 680 + 34 * stream + 6) : 0; }
 
 /* What hda_advance_bounds put into `into` for stream 0 or 1: the lowest and the highest count of submitted bytes. Less hda_submitted they are what an hda_advance moves at least and at
  * most. */
-static inline uint64_t hda_lowest(const uint8_t into[HDA_BOUNDS_BYTES], unsigned stream)
-{
-    uint64_t bytes = 0;
-    for (unsigned i = 8; stream <= 1 && i-- > 0;)
-        bytes = bytes << 8 | into[16 * stream + i];
-    return bytes;
-}
+static inline uint64_t hda_lowest(const uint8_t into[HDA_BOUNDS_BYTES], unsigned stream) { return stream <= 1 ? hda_word_64(into + 16 * stream) : 0; }
 
-static inline uint64_t hda_highest(const uint8_t into[HDA_BOUNDS_BYTES], unsigned stream)
-{
-    uint64_t bytes = 0;
-    for (unsigned i = 8; stream <= 1 && i-- > 0;)
-        bytes = bytes << 8 | into[16 * stream + 8 + i];
-    return bytes;
-}
+static inline uint64_t hda_highest(const uint8_t into[HDA_BOUNDS_BYTES], unsigned stream) { return stream <= 1 ? hda_word_64(into + 16 * stream + 8) : 0; }
 
 /* Calls that make a record, whatever its bytes were before. HDA_LENT_SPACE for short lists or queues, then HDA_STATE for another length of the record. */
 

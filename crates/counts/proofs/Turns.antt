@@ -62,9 +62,6 @@ module _ (regs regs′ : List ℕ) (r : Agree Timeless regs regs′) (i : ℕ) w
   pub format-alike : wordAt 2 (fmt i) regs ≡ wordAt 2 (fmt i) regs′
   format-alike = word-alike 2 0x12
 
-  pub cyclic-alike : cyclicOf regs i ≡ cyclicOf regs′ i
-  cyclic-alike = rw (word-alike 8 0x18, word-alike 2 0x0c, word-alike 4 0x08)
-
   setup-alike : (codec : Codec) (downstream limit : ℕ) → setupOf regs codec i downstream limit ≡ setupOf regs′ codec i downstream limit
   unfolding setupOf
   setup-alike codec downstream limit =

@@ -3,14 +3,21 @@ use Prim.Native.Nat.{_≤_}
 use mathlib.Core.Path.{_≡_, sym, ap, _∙_}
 use native.Mathlib.Omega.{arith}
 use lib.ListN.{length}
-use Rattle.device.specs.Machines.{machine}
+use Rattle.device.specs.Machines.{Machine, machine}
 use Rattle.record.specs.Loads.{deviceAt}
 use Rattle.jitter.specs.declared.Bounded.{Bounded}
-use Rattle.jitter.specs.Calls.{scratch, boundingOf}
+use Rattle.jitter.specs.Calls.{Scratch, scratch, boundingOf}
 use Rattle.jitter.proofs.Outcomes.{refused-check, refused-times, refused-space, enough, accepted}
 use borrow.Author.Needs.{needs}
 use Rattle.jitter.proofs.bounds.Statement.{statement}
 use Rattle.jitter.proofs.bounds.Tie as tie
+
+-- what the call is handed
+abbrev machine-at : tie.Start → Machine
+machine-at c = let a = c .args in machine (deviceAt (a .device .now)) (a .host) (a .lists .now) (a .queues .now) (a .memory .now)
+
+abbrev scratch-at : tie.Start → Scratch
+scratch-at c = let a = c .args in scratch (a .lists2 .now) (a .queues2 .now) (a .memory2 .now)
 
 -- places and facts further back, from nearer places
 abbrev start-before : tie.After-check → tie.Start
@@ -36,8 +43,8 @@ returns c =
     let checked : tie.After-check = search in
     let start : tie.Start = start-before checked in
     let a = start .args in
-    let x = machine (deviceAt (a .device .now)) (a .host) (a .lists .now) (a .queues .now) (a .memory .now) in
-    let s = scratch (a .lists2 .now) (a .queues2 .now) (a .memory2 .now) in
+    let x = machine-at start in
+    let s = scratch-at start in
     let into = a .into .now in
     ap (λ (b : Bounded). boundingOf b s into) (c .answer .ensures)
     ∙ refused-check (a .shortest) (a .longest) x s into (checked .check .result) (checked .check .ensures) (λ z. omega arith)
@@ -47,8 +54,8 @@ returns-2 c =
     let checked : tie.After-check = search in
     let start : tie.Start = start-before checked in
     let a = start .args in
-    let x = machine (deviceAt (a .device .now)) (a .host) (a .lists .now) (a .queues .now) (a .memory .now) in
-    let s = scratch (a .lists2 .now) (a .queues2 .now) (a .memory2 .now) in
+    let x = machine-at start in
+    let s = scratch-at start in
     let into = a .into .now in
     let none : checked .check .result ≡ 0 = omega arith in
     ap (λ (b : Bounded). boundingOf b s into) (c .answer2 .ensures) ∙ refused-times (a .shortest) (a .longest) x s into (sym (checked .check .ensures) ∙ none) (omega arith)
@@ -60,8 +67,8 @@ returns-3 c =
     let checked : tie.After-check = search in
     let start : tie.Start = start-before checked in
     let a = start .args in
-    let x = machine (deviceAt (a .device .now)) (a .host) (a .lists .now) (a .queues .now) (a .memory .now) in
-    let s = scratch (a .lists2 .now) (a .queues2 .now) (a .memory2 .now) in
+    let x = machine-at start in
+    let s = scratch-at start in
     let into = a .into .now in
     let none : checked .check .result ≡ 0 = omega arith in
     ap (λ (b : Bounded). boundingOf b s into) (c .answer3 .ensures)
@@ -74,8 +81,8 @@ bounds-step-requires c κs =
     let checked : tie.After-check = search in
     let start : tie.Start = start-before checked in
     let a = start .args in
-    let x = machine (deviceAt (a .device .now)) (a .host) (a .lists .now) (a .queues .now) (a .memory .now) in
-    let s = scratch (a .lists2 .now) (a .queues2 .now) (a .memory2 .now) in
+    let x = machine-at start in
+    let s = scratch-at start in
     let into = a .into .now in
     let none : checked .check .result ≡ 0 = omega arith in
     let room = enough x s (length into) (sym (asked .is-short .ensures) ∙ long .if3 .left) in (
@@ -91,8 +98,8 @@ returns-4 c =
     let checked : tie.After-check = checked-before asked in
     let start : tie.Start = start-before checked in
     let a = start .args in
-    let x = machine (deviceAt (a .device .now)) (a .host) (a .lists .now) (a .queues .now) (a .memory .now) in
-    let s = scratch (a .lists2 .now) (a .queues2 .now) (a .memory2 .now) in
+    let x = machine-at start in
+    let s = scratch-at start in
     let into = a .into .now in
     let none : checked .check .result ≡ 0 = zero-before long in
     let step = stepped .bounds-step in
