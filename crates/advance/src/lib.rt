@@ -1,5 +1,7 @@
 // `advance`: the wall clock, the commands that wait, every stream's turn in order, and the interrupt (document 01, "`advance`, `write`, configuration, snapshot";
 // the Rust's `Hda::advance`), on the device where it stands in its record.
+#![tactic(auto)]
+
 ghost use Rattle.std.specs.Prelude.{◌≡◌, true, false, ◌≤◌, length};
 ghost use Rattle.pci.specs.declared.Msi.TheVariants.{None};
 ghost use Rattle.device.specs.Machines.{machine, answer_of};
@@ -13,7 +15,7 @@ use pci::Msi;
 use serve::Served;
 
 // What the call answers beside the record, the lent spaces and memory: document 01's number, the INTx level it leaves, a message to send, and the host end.
-#[derive(Drop)]
+#[derive(Clone, Copy)]
 pub struct Advanced {
     pub msi: Msi,
     pub host: Host,

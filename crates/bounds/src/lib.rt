@@ -1,5 +1,7 @@
 // The C function of a timer with jitter (request T-13; include/hda.h, docs/LAYOUT.md), in an object of its own beside crate port's. It runs `advance` too: in one object with hda_advance the compiler would no longer put all of `advance` into
 // that function, and every tick would pay for the call. Its contract, like theirs, is the outcome that crate lent_calls gives for the call.
+#![tactic(auto)]
+
 ghost use Rattle.std.specs.Prelude.{◌≡◌};
 ghost use Rattle.calls.specs.Calls.{advance_bounds};
 ghost use Rattle.port_device.specs.Calls.{lent};

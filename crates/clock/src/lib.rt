@@ -3,6 +3,8 @@
 // Time comes in 64-bit nanoseconds. What is short of a whole tick or frame is kept in billionths of one, so that no time is lost between calls.
 // The Rust sums in 128 bits; here whole seconds and the part of a second are counted separately, and no sum or product passes 64 bits, whatever numbers
 // the caller hands in (document 01, What must change shape).
+#![tactic(auto)]
+
 ghost use Rattle.std.specs.Prelude.{◌≡◌, ◌<◌};
 ghost use Rattle.clock.specs.Billionths.{billion, total_of, amount_of};
 ghost use Rattle.clock.specs.Clock.{fresh_of, advance_of, shown_of};
@@ -18,7 +20,7 @@ pub const WALL_RATE: u32 = 24_000_000;
 pub const MAX_PENDING_FRAMES: u64 = 8_192;
 
 // The wall clock: ticks, and billionths of the next tick.
-#[derive(Drop)]
+#[derive(Clone, Copy)]
 pub struct Clock {
     pub ticks: u64,
     pub fraction: u64,
@@ -81,7 +83,7 @@ pub fn remainder(fraction: u64) -> u64
 }
 
 // A count in billionths: whole ones, and what is left over.
-#[derive(Drop)]
+#[derive(Clone, Copy)]
 struct Amount {
     whole: u64,
     remainder: u64,

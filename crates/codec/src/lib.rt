@@ -1,6 +1,8 @@
 // The duplex codec: HDA 1.0a chapter 7, as the Rust's `Codec` has it (document 01, "Codec"). Node 0 is the root, 1 the audio function
 // group, 2 and 3 the output converter and its pin, 4 and 5 the input converter and its pin. The contracts cite the device's own definitions;
 // crate codec_hda says what HDA 1.0a has, and where the two agree.
+#![tactic(auto)]
+
 
 ghost use Rattle.std.specs.Prelude.{◌≡◌, ◌+◌, ◌≤◌, ◌<◌, length};
 ghost use Rattle.word.specs.Place.{put_at};
@@ -10,18 +12,18 @@ ghost use Rattle.codec.specs.Bytes.{record_at, codec_at, store_codec_at};
 use node::Node;
 
 // What a command puts on the link: nothing, or one word (`words_of`).
-#[derive(Drop)]
+#[derive(Clone, Copy)]
 pub enum Reply {
     Nothing,
     Value(u32),
 }
 
-#[derive(Drop)]
+#[derive(Clone, Copy)]
 pub struct Codec {
     pub nodes: [Node; 6],
 }
 
-#[derive(Drop)]
+#[derive(Clone, Copy)]
 pub struct Outcome {
     pub codec: Codec,
     pub reply: Reply,
@@ -51,7 +53,7 @@ fn load_node(bytes: &[u8], at: usize) -> Node
 {
     let mut own = [0u8; 24];
     let end = at + 24;
-    bytes::copy(&bytes[at..end], &mut own);
+    word::copy(&bytes[at..end], &mut own);
     Node { bytes: own }
 }
 
@@ -61,7 +63,7 @@ fn store_node(node: Node, bytes: &mut [u8], at: usize)
     ensures { bytes.new ≡ put_at at node.bytes bytes.old }
 {
     let end = at + 24;
-    bytes::copy(&node.bytes, &mut bytes[at..end]);
+    word::copy(&node.bytes, &mut bytes[at..end]);
 }
 
 impl Codec {

@@ -1,4 +1,6 @@
 // The device's configuration space (the Rust's `PciDevice`).
+#![tactic(auto)]
+
 ghost use Rattle.std.specs.Prelude.{◌≡◌, ◌≤◌, ◌<◌, length};
 ghost use Rattle.configuration.specs.Configuration.{fresh_of, read_of, replaced, write_byte_of, write_of};
 

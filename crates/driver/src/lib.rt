@@ -1,4 +1,6 @@
 // The calls of the host's sound driver: feed, pull and the three settings (document 01, "Host end, added").
+#![tactic(auto)]
+
 ghost use Rattle.std.specs.Prelude.{◌≡◌, length};
 ghost use Rattle.driver.specs.Calls.{frame_check_of, feed_answer, feed_of, pull_answer, pull_of, playback_fails_of, capture_fails_of, downstream_of, setting_of};
 
@@ -11,7 +13,7 @@ pub const CAPTURE: usize = 0;
 pub const PLAYBACK: usize = STREAMS / 2;
 
 // What feed and pull answer.
-#[derive(Drop)]
+#[derive(Clone, Copy)]
 pub struct Fed {
     pub number: u32,
     pub frames: u32,
@@ -19,7 +21,7 @@ pub struct Fed {
 }
 
 // What a setting answers.
-#[derive(Drop)]
+#[derive(Clone, Copy)]
 pub struct Set {
     pub number: u32,
     pub host: Host,

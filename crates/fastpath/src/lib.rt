@@ -1,5 +1,7 @@
 // The fast path of a guest's writes, where the device stands in its record. A write that resets, starts and stops nothing, and is no immediate command, changes the two
 // files and the message latch alone, but for commands that wait. Any other is left to the calls on the whole device.
+#![tactic(auto)]
+
 ghost use Rattle.std.specs.Prelude.{◌≡◌, true, ◌≤◌, length};
 ghost use Rattle.stream.specs.Box.{streams};
 ghost use Rattle.bus.specs.Bus.{front_of, plain_write, bytes_of};
@@ -15,7 +17,7 @@ use rings::Link;
 use stream::STREAMS;
 
 // Whether a write was carried out, and then the INTx level that it leaves and its message.
-#[derive(Drop)]
+#[derive(Clone, Copy)]
 pub struct Quick {
     pub msi: Msi,
     pub done: bool,

@@ -1,10 +1,12 @@
 // The stream format word: which words this device takes, and the rate of each.
+#![tactic(auto)]
+
 ghost use Rattle.std.specs.Prelude.{◌≡◌};
 ghost use Rattle.format.specs.Hda.{base_field, base_rate};
 ghost use Rattle.format.specs.Format.{rates, among, format_of};
 
 // What a format word is to this device: 16-bit stereo at so many frames a second, or nothing that it takes.
-#[derive(Drop)]
+#[derive(Clone, Copy)]
 pub enum Format {
     Unsupported,
     Rate(u32),

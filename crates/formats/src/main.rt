@@ -1,4 +1,6 @@
 // Prints every format word that the device takes, as four hexadecimal digits, and its rate, rising (document 01, Format word).
+#![tactic(auto)]
+
 ghost use Rattle.std.specs.Prelude.{◌≡◌, ◌<◌};
 ghost use Rattle.formats.specs.Line.{digit_of, line_of};
 

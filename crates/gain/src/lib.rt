@@ -3,6 +3,8 @@
 //
 // `scale` is the plain form, total over every f64. A buffer goes up to 64 frames at a time: both sides' samples are taken out, scaled, for
 // the factors of the table in a form that the compiler turns into vector code, and put back or into the other buffer.
+#![tactic(auto)]
+
 ghost use Rattle.std.specs.Prelude.{◌≡◌, T, length, ◌+◌, ◌*◌, ◌/◌, ◌%◌, ◌≤◌, ◌<◌, min};
 ghost use Rattle.std.specs.Float.Ieee.Positive.{positive};
 ghost use Rattle.gain.specs.declared.Gain.TheVariants.{Factor};
@@ -10,7 +12,7 @@ ghost use Rattle.gain.specs.Gain.{factor, gain_of, whole_of, rounded, scaled, si
 ghost use Rattle.gain.specs.Fast.{roundable, limited, magnitude16, with_sign16, is_silence, is_unity, blockwise, AmplifiedTo, ZerosTo, SameFrom, Gathered, ScaledWords, ScaledSide, Scattered, sample_scaled};
 
 // What is done to a sample: `scaled` of specs/Gain.antt has the meaning of each case.
-#[derive(Drop)]
+#[derive(Clone, Copy)]
 pub enum Gain {
     Silence,
     Unity,
@@ -284,7 +286,7 @@ fn frames_into(pcm: &[u8], into: &mut [u8], whole: usize, left: Gain, right: Gai
     if silent {
         clear(into, whole);
     } else if same {
-        bytes::copy(&pcm[0..whole], into);
+        word::copy(&pcm[0..whole], into);
     } else {
         blocks_into(pcm, into, whole, left, right);
     }

@@ -1,5 +1,7 @@
 // The host end: opening switches, downstream count, and a queue for each stream in lent space, with its check and a stream's opening and closing
 // (document 01, "Host end, added").
+#![tactic(auto)]
+
 ghost use Rattle.std.specs.Prelude.{◌≡◌, ◌<◌};
 ghost use Rattle.stream.specs.Box.{streams};
 ghost use Rattle.host.specs.Hosts.{fresh_of, valid_downstream, valid_of, check_of, fails_of, open_of, close_of};
@@ -11,7 +13,7 @@ use stream::{STREAMS, Stream};
 pub const DOWNSTREAM: u32 = 14336;
 
 // The host end. `playback` and `capture` make openings of that direction fail; `downstream` counts bytes that the host holds beyond the queue.
-#[derive(Drop)]
+#[derive(Clone, Copy)]
 pub struct Host {
     pub playback: bool,
     pub capture: bool,
@@ -20,7 +22,7 @@ pub struct Host {
 }
 
 // What an opening answers: whether the stream is open, and the host end.
-#[derive(Drop)]
+#[derive(Clone, Copy)]
 pub struct Opening {
     pub host: Host,
     pub ok: bool,

@@ -1,4 +1,6 @@
 // The host end as bytes (docs/LAYOUT.md): the record that crosses the C boundary.
+#![tactic(auto)]
+
 ghost use Rattle.std.specs.Prelude.{◌≡◌, ◌+◌, ◌≤◌, length};
 ghost use Rattle.word.specs.Place.{put_at};
 ghost use Rattle.stream.specs.Box.{streams};

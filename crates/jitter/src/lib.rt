@@ -1,6 +1,8 @@
 // A timer with jitter (request T-13): the lowest and the highest submitted count that `advance` can leave of each stream, where the elapsed time is known only between a shortest and a longest. Neither end of
 // the times need give an end of the counts, since a longer time can fail a piece that a shorter one moves, and one stream can write what another reads: every time counts. So `advance` runs once for
 // each run of times that no count tells apart (crate counts), on scratch that is filled anew with what counts can depend on.
+#![tactic(auto)]
+
 ghost use Rattle.std.specs.Prelude.{◌≡◌, true, false, ◌||◌, ◌+◌, ◌*◌, ◌/◌, ◌≤◌, min, ltb, length, get_or};
 ghost use Rattle.word.specs.Place.{word_at};
 ghost use Rattle.format.specs.Format.{format_of};
@@ -36,7 +38,7 @@ const LISTS: usize = Stream::LIST * STREAMS;
 const QUEUES: usize = Stream::QUEUE * STREAMS;
 
 // What the call answers beside scratch and result: its number, the INTx level, and how many bytes it wrote.
-#[derive(Drop)]
+#[derive(Clone, Copy)]
 pub struct Bounded {
     pub number: u32,
     pub level: bool,
@@ -44,7 +46,7 @@ pub struct Bounded {
 }
 
 // The lowest and the highest count of each stream.
-#[derive(Drop)]
+#[derive(Clone, Copy)]
 struct Spread {
     lowest: [u64; STREAMS],
     highest: [u64; STREAMS],
@@ -158,7 +160,7 @@ fn window(from: &[u8], at: u64, count: usize, into: &mut [u8])
     let start = at as usize;
     let n = lesser(count, size - start);
     let end = start + n;
-    bytes::copy(&from[start..end], &mut into[start..end]);
+    word::copy(&from[start..end], &mut into[start..end]);
 }
 
 // A base address, which has its low seven bits clear.
@@ -229,7 +231,7 @@ fn fill(
     ensures { (lists2.new ≡ pending_of (device_at device.now) lists.now lists2.old) × (queues2.new ≡ queues.now) × (memory2.new ≡ seen_of (device_at device.now).regs memory.now memory2.old) }
 {
     pending(device, lists, lists2);
-    bytes::copy(queues, queues2);
+    word::copy(queues, queues2);
     seen(&device[record::REGISTERS..record::CODEC], memory, memory2);
 }
 
@@ -264,7 +266,7 @@ fn run(
     ensures { Counted result (advance_of nanos (machine (device_at device.now) host lists.old queues.old memory.old)).answer.hda }
 {
     let mut copy = [0u8; record::DEVICE];
-    bytes::copy(device, &mut copy);
+    word::copy(device, &mut copy);
     advance::advance(&mut copy, host, lists, queues, memory, nanos);
     counts(&copy)
 }

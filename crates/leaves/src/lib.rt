@@ -1,5 +1,7 @@
 // C functions over single leaves, for comparison with the Rust and for benchmarks. Each takes any bytes of any lengths; a slice is a
 // pointer and a length in C. Too few bytes: LENT_SPACE is returned, and nothing changes.
+#![tactic(auto)]
+
 ghost use Rattle.std.specs.Prelude.{◌≡◌, ◌≤◌, length};
 ghost use Rattle.format.specs.Format.{format_of, rate_of};
 ghost use Rattle.gain.specs.Gain.{gain_of, amplified_of};
@@ -55,7 +57,7 @@ pub extern "C" fn hda_amplify_then_copy(pcm: &mut [u8], into: &mut [u8], left: u
         return LENT_SPACE;
     }
     gain::amplify_by(pcm, left, right);
-    bytes::copy(&pcm[0..n], into);
+    word::copy(&pcm[0..n], into);
     0
 }
 

@@ -1,18 +1,20 @@
 // Guest memory as one lent slice from guest address 0: copies out of it and into it, and the buffer descriptors in it.
 // Every function takes any address and any lengths: what crosses the end of memory moves nothing and says so.
+#![tactic(auto)]
+
 ghost use Rattle.std.specs.Prelude.{◌≡◌, ◌+◌, ◌≤◌, length, leb};
 ghost use Rattle.memory.specs.Memory.{access_of, read_of, write_of, entry_at, descriptor_of};
 
 // An entry of a buffer descriptor list: where the buffer is, its length in bytes, and the flags, of which bit 0 asks for an
 // interrupt on completion.
-#[derive(Drop)]
+#[derive(Clone, Copy)]
 pub struct Descriptor {
     pub address: u64,
     pub length: u32,
     pub flags: u32,
 }
 
-#[derive(Drop)]
+#[derive(Clone, Copy)]
 pub enum Fetched {
     // The sixteen bytes are not all in memory: the transfer fails.
     Outside,
@@ -44,7 +46,7 @@ pub fn read(memory: &[u8], address: u64, into: &mut [u8]) -> bool
     }
     let start = address as usize;
     let end = start + count;
-    bytes::copy(&memory[start..end], into);
+    word::copy(&memory[start..end], into);
     true
 }
 
@@ -58,7 +60,7 @@ pub fn write(memory: &mut [u8], address: u64, from: &[u8]) -> bool
     }
     let at = address as usize;
     let end = at + count;
-    bytes::copy(from, &mut memory[at..end]);
+    word::copy(from, &mut memory[at..end]);
     true
 }
 

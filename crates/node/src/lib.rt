@@ -1,4 +1,5 @@
 // One node of the codec: its parameters, its record, and the verbs on it (document 01, "Codec"; the Rust's `Codec::execute_verb` and `Codec::parameter`).
+#![tactic(auto)]
 
 ghost use Rattle.std.specs.Prelude.{◌≡◌, ◌*◌, ◌<◌};
 ghost use Rattle.node.specs.Parameters.{parameter_of};
@@ -66,13 +67,13 @@ pub fn parameter(node: u32, p: u32) -> u32
 // A node's record: input amplifier left and right (0, 1), output amplifier left and right (2, 3), connection (4), power state (5),
 // stream and channel (6), pin control (7), unsolicited response (8), EAPD (9), format (10, 11), configuration default (12 to 15), and
 // eight bytes that no verb reaches.
-#[derive(Drop)]
+#[derive(Clone, Copy)]
 pub struct Node {
     pub bytes: [u8; 24],
 }
 
 // A node after a command, and what it replied.
-#[derive(Drop)]
+#[derive(Clone, Copy)]
 pub struct Answer {
     pub node: Node,
     pub value: u32,

@@ -1,5 +1,7 @@
 // Which saved states a device takes: the tests of restore in reading order, up to the host's openings (document 01, "Numbers returned"; the Rust's `restore_state`).
 // Nothing is changed here. Each answer is document 01's number, 0 where the state is taken so far.
+#![tactic(auto)]
+
 ghost use Rattle.std.specs.Prelude.{◌≡◌, ◌+◌, ◌*◌, ◌≤◌, ◌<◌, length};
 ghost use Rattle.stream.specs.Box.{streams};
 ghost use Rattle.format.specs.Format.{format_of, number_of};
@@ -11,7 +13,7 @@ use reader::Got;
 use stream::{STREAMS, Stream};
 
 // The number of a stream's part of a state, and where the next part begins.
-#[derive(Drop)]
+#[derive(Clone, Copy)]
 pub struct Step {
     pub number: u32,
     pub next: usize,

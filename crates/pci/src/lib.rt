@@ -1,4 +1,6 @@
 // The device's interrupt, as line or message (the Rust's `update_irq`).
+#![tactic(auto)]
+
 ghost use Rattle.std.specs.Prelude.{◌≡◌, cond, ◌+◌, ◌^◌, ◌≤◌, ◌<◌, length};
 ghost use Rattle.stream.specs.Box.{streams};
 ghost use Rattle.registers.specs.Places.{size};
@@ -8,14 +10,14 @@ use configuration::Config;
 use registers::Registers;
 
 // A message of the interrupt, or none.
-#[derive(Drop)]
+#[derive(Clone, Copy)]
 pub enum Msi {
     None,
     Message { address: u64, value: u32 },
 }
 
 // What the files say of the interrupt: global status, whether the configuration shows a line, whether a message is asserted, the INTx level, and the message to send.
-#[derive(Drop)]
+#[derive(Clone, Copy)]
 pub struct Interrupt {
     pub msi: Msi,
     pub status: u32,
@@ -25,7 +27,7 @@ pub struct Interrupt {
 }
 
 // What an update of the interrupt answers: whether a message interrupt is asserted, and the message to send.
-#[derive(Drop)]
+#[derive(Clone, Copy)]
 pub struct Signal {
     pub msi: Msi,
     pub asserted: bool,

@@ -1,4 +1,6 @@
 // The pieces that a transfer moves between guest memory and a period of samples (document 01, "Stream transfer"; the Rust's `transfer`).
+#![tactic(auto)]
+
 ghost use Rattle.std.specs.Prelude.{◌≡◌, ◌+◌, ◌^◌, ◌≤◌, ◌<◌, length};
 ghost use Rattle.stream.specs.Streams.{list_size};
 ghost use Rattle.pieces.specs.Pieces.{following_of, next_of, list_of, EndOk, NextNeeds, memory_of, pcm_of, state_of, step_out, piece_of, pieces_of, PeriodNeeds};
@@ -7,7 +9,7 @@ use plan::{End, Plan};
 use stream::{Cyclic, Stream};
 
 // What a piece, or all pieces of a period, left beside the lent lists.
-#[derive(Drop)]
+#[derive(Clone, Copy)]
 pub struct Step {
     pub stream: Stream,
     pub done: u32,

@@ -1,4 +1,6 @@
 // What one piece of a transfer is to do, decided before anything changes (document 01, "Stream transfer"; the Rust's `transfer`).
+#![tactic(auto)]
+
 ghost use Rattle.std.specs.Prelude.{◌≡◌, ◌+◌, ◌^◌, ◌≤◌, ◌<◌};
 ghost use Rattle.plan.specs.Plans.{ready_of, size_of, end_of, placed_of, entry_of, plan_of};
 
@@ -6,7 +8,7 @@ use memory::{Descriptor, Fetched};
 use stream::{Cyclic, Stream};
 
 // Where a piece ends: inside its descriptor, at its end, or at an end that is flagged.
-#[derive(Drop)]
+#[derive(Clone, Copy)]
 pub enum End {
     Inside,
     Plain,
@@ -14,7 +16,7 @@ pub enum End {
 }
 
 // What a piece is to do. `Full` is a flagged end with no place left for its position; `Failed` any other rule that stops a transfer.
-#[derive(Drop)]
+#[derive(Clone, Copy)]
 pub enum Plan {
     Failed,
     Full,

@@ -1,6 +1,8 @@
 // The device's C functions (include/hda.h, docs/LAYOUT.md). A slice is a pointer and a length; any bytes of any lengths may come in any order. Each function is the call of
 // crates port_device, port_reads, port_host and port_wav by its C name. Its contract is the outcome that crate lent_calls gives for that call, the very definition that demand 3 on bytes steps by; bytes
 // that a function is not handed are `none` there. A flag is any number, and all but 0 is true. The last two are handed no device and no host end, and are no calls of demand 3.
+#![tactic(auto)]
+
 ghost use Rattle.std.specs.Prelude.{◌≡◌, true, false, not, eqb};
 ghost use Rattle.calls.specs.Calls.{advance, read, write, bar_read, bar_write, config_read, config_write, pin_change, pause, feed, pull, playback_fails, capture_fails, downstream, save, restore};
 ghost use Rattle.port_device.specs.Calls.{lent, returned, made, none};

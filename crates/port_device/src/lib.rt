@@ -1,5 +1,7 @@
 // Calls that change a device, where the caller has its record and that of the host end as bytes. Each returns one number (crate reply). `advance` works on the record, and
 // so do most writes (crate fastpath); else the device is taken out of its record, handed on by value, and put back.
+#![tactic(auto)]
+
 ghost use Rattle.std.specs.Prelude.{◌≡◌, length};
 ghost use Rattle.record.specs.Layout.{device_size};
 ghost use Rattle.host_record.specs.Hosts.{host_size};

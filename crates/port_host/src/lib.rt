@@ -1,4 +1,6 @@
 // Calls on a host end record that the caller has as bytes: made, fed, pulled from, set. Each returns one number (crate reply); there is no device to report a level of.
+#![tactic(auto)]
+
 ghost use Rattle.std.specs.Prelude.{◌≡◌, length};
 ghost use Rattle.driver.specs.Calls.{playback_fails_of, capture_fails_of, downstream_of};
 ghost use Rattle.host_record.specs.Hosts.{host_size};

@@ -1,4 +1,6 @@
 // The call of a timer with jitter (request T-13) on a device whose record, like that of its host end, the caller has as bytes. It returns one number (crate reply).
+#![tactic(auto)]
+
 ghost use Rattle.std.specs.Prelude.{◌≡◌};
 ghost use Rattle.jitter.specs.Calls.{scratch};
 ghost use Rattle.port_jitter.specs.Calls.{bounded_out, bounds_of};

@@ -1,4 +1,6 @@
 // Calls that read a device whose record, like that of its host end, the caller has as bytes: registers, configuration, saved state. Each returns one number (crate reply).
+#![tactic(auto)]
+
 ghost use Rattle.std.specs.Prelude.{◌≡◌, length};
 ghost use Rattle.port_reads.specs.Reads.{shown, read_of, bar_read_of, config_read_of, save_of};
 

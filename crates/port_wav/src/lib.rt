@@ -1,4 +1,6 @@
 // Takes as files (crate wav) on the bytes that a caller lends. Each call returns one number (crate reply); it is handed neither device nor host end.
+#![tactic(auto)]
+
 ghost use Rattle.std.specs.Prelude.{◌≡◌};
 ghost use Rattle.port_wav.specs.Calls.{filled_out, write_of, read_of};
 

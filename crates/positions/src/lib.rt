@@ -1,5 +1,7 @@
 // A stream's completion list: little-endian 64-bit positions in lent bytes. How many are pending the caller knows; the functions
 // take that count. The contracts of push and retire give the whole lent list at exit, so nothing else of the lent space changes.
+#![tactic(auto)]
+
 ghost use Rattle.std.specs.Prelude.{◌≡◌, ◌+◌, ◌*◌, ◌≤◌, length};
 ghost use Rattle.word.specs.Place.{word_at};
 ghost use Rattle.positions.specs.Positions.{positions_of, rises_of, spaced_of, up_to_of, push_of, retire_of};

@@ -1,18 +1,20 @@
 // A stream's host queue (document 01, "Host end, added"). Its bytes stand from the start of the stream's part of the lent space.
+#![tactic(auto)]
+
 ghost use Rattle.std.specs.Prelude.{◌≡◌, ◌≤◌, length};
 ghost use Rattle.queue.specs.Queues.{capacity, valid_queue, latency_of, fitting_of, reserve_of, moved_of, put_of, taken_of, take_into_of};
 
 use stream::Stream;
 
 // One stream's queue: whether the stream is open, and how many bytes are queued.
-#[derive(Drop)]
+#[derive(Clone, Copy)]
 pub struct Queue {
     pub live: bool,
     pub length: u32,
 }
 
 // What a queue's reserve, put and take answer: the bytes moved, and the queue.
-#[derive(Drop)]
+#[derive(Clone, Copy)]
 pub struct QueueMoved {
     pub count: u32,
     pub queue: Queue,
@@ -80,7 +82,7 @@ impl Queue {
         let n = moved.count as usize;
         let at = self.length as usize;
         let end = at + n;
-        bytes::copy(&bytes[0..n], &mut part[at..end]);
+        word::copy(&bytes[0..n], &mut part[at..end]);
         moved
     }
 
@@ -92,7 +94,7 @@ impl Queue {
         let count = word::least(into.len() as u64, self.length as u64) as u32;
         let n = count as usize;
         let left = self.length - count;
-        bytes::copy(&part[0..n], into);
+        word::copy(&part[0..n], into);
         word::shift(part, n, left as usize);
         QueueMoved {
             count,

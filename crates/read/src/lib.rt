@@ -1,5 +1,7 @@
 // A guest's reads of registers and configuration (the Rust's `BusDevice::read` and `PciDevice`'s reads), where the device stands in its record: it is not taken out. Each
 // checks the machine first (document 01, "Numbers returned"), leaves the device as it is, and answers its number and the INTx level.
+#![tactic(auto)]
+
 ghost use Rattle.std.specs.Prelude.{◌≡◌, ◌*◌, ◌≤◌, length, replicate};
 ghost use Rattle.stream.specs.Box.{streams};
 ghost use Rattle.stream.specs.Streams.{list_size};
@@ -13,14 +15,14 @@ use host::Host;
 use stream::{STREAMS, Stream};
 
 // What a register read answers beside the buffer.
-#[derive(Drop)]
+#[derive(Clone, Copy)]
 pub struct Status {
     pub number: u32,
     pub level: bool,
 }
 
 // What a configuration read answers.
-#[derive(Drop)]
+#[derive(Clone, Copy)]
 pub struct Value {
     pub number: u32,
     pub level: bool,

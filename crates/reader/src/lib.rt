@@ -1,5 +1,7 @@
 // A reader over the bytes of a saved state: it holds the slice, and the place where the unread bytes begin. Its functions are thin and
 // proved by walks; the work is done below them by covered functions, and `field` and `run`, with plain parameters, are for covered callers.
+#![tactic(auto)]
+
 ghost use Rattle.std.specs.Prelude.{◌≡◌, ◌+◌, ◌≤◌, length, ltb};
 ghost use Rattle.reader.specs.Fields.{field_of, run_of, reader_of, taken_of, take_of, take_run_of};
 
@@ -10,14 +12,14 @@ pub struct StateReader<'a> {
 }
 
 // A field of the state: its number, or the state ends inside it (document 01's number 2).
-#[derive(Drop)]
+#[derive(Clone, Copy)]
 pub enum Got {
     Value(u64),
     Short,
 }
 
 // An answer, and where the unread bytes begin.
-#[derive(Drop)]
+#[derive(Clone, Copy)]
 pub struct Took {
     pub got: Got,
     pub next: usize,

@@ -4,7 +4,7 @@
 ghost use Rattle.std.specs.Prelude.{◌≡◌, ◌+◌, ◌≤◌, length};
 ghost use Rattle.rehearse.specs.Recorded.{call_at};
 
-#[derive(Drop)]
+#[derive(Clone, Copy)]
 pub struct Call {
     pub tag: u8,
     pub kind: u8,

@@ -5,6 +5,8 @@
 //
 // No contract can say what a file holds. So what is stated is what any bytes give: calls.rt, digest.rt, noise.rt and verdict.rt have it for one call, play.rt
 // for all of them. Of what reads the bytes and prints the tally it is proved that it is safe and ends.
+#![tactic(auto)]
+
 mod call;
 mod calls;
 mod digest;

@@ -8,7 +8,7 @@ use crate::call::Call;
 use crate::{call, verdict};
 
 // How many calls and sequences there were, how many of the calls the amended Rust had answered, and whether all were as recorded.
-#[derive(Drop)]
+#[derive(Clone, Copy)]
 pub struct Tally {
     pub calls: u64,
     pub sequences: u64,

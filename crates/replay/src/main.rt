@@ -6,6 +6,8 @@
 //
 // No contract can say what a file holds. So what is stated is what any bytes give: verdict.rt has it for a line, lines.rt for all of them. Of
 // what reads the bytes and prints it is proved that it is safe and ends.
+#![tactic(auto)]
+
 mod answers;
 mod hex;
 mod lines;

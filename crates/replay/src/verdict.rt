@@ -2,7 +2,7 @@
 ghost use Rattle.std.specs.Prelude.{◌≡◌, ◌*◌, ◌≤◌, length};
 ghost use Rattle.replay.specs.Verdict.{own_of, verdict_of, line_verdict_of, own_in, counted_of, amended_line, attributed_of};
 
-#[derive(Drop)]
+#[derive(Clone, Copy)]
 pub enum Verdict {
     Same,
     Differs,
@@ -61,7 +61,7 @@ pub fn is_amended(line: &[u8]) -> bool
 }
 
 // How many lines there were, how many of them the amended Rust answered, and how many the proved code answers in another way or cannot read.
-#[derive(Drop)]
+#[derive(Clone, Copy)]
 pub struct Tally {
     pub lines: u64,
     pub amended: u64,

@@ -1,4 +1,6 @@
 // What a C function returns, as one number, and the test of the records that it is handed.
+#![tactic(auto)]
+
 ghost use Rattle.std.specs.Prelude.{◌≡◌, ◌≤◌};
 ghost use Rattle.reply.specs.Replies.{is_sent, bit_of, reply_of, fill_reply_of, unreadable_of, is_machine};
 

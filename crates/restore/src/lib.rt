@@ -1,5 +1,7 @@
 // The calls `restore` and `restore_emptied`: a saved state takes the place of the device's own (document 01, "Numbers returned"; the Rust's `restore_state`; request T-09). All
 // tests come first, so that a refusal changes nothing. `strict` is true for the first, which refuses crowded lists, and false for the second, which empties them.
+#![tactic(auto)]
+
 ghost use Rattle.std.specs.Prelude.{◌≡◌, ◌+◌, ◌*◌, ◌≤◌, ◌<◌, length};
 ghost use Rattle.stream.specs.Box.{streams};
 ghost use Rattle.stream.specs.Streams.{list_size};

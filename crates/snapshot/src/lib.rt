@@ -1,4 +1,6 @@
 // A device's saved state: `save` (document 01, "Numbers returned"; the Rust's `save_state`).
+#![tactic(auto)]
+
 ghost use Rattle.std.specs.Prelude.{◌≡◌, ◌+◌, ◌*◌, ◌≤◌, length};
 ghost use Rattle.word.specs.Place.{put_at};
 ghost use Rattle.stream.specs.Box.{streams};
@@ -10,7 +12,7 @@ use host::Host;
 use stream::{STREAMS, Stream};
 
 // What `save` answers beside the lent space: its number, the INTx level, and how many bytes it wrote.
-#[derive(Drop)]
+#[derive(Clone, Copy)]
 pub struct Saved {
     pub number: u32,
     pub level: bool,

@@ -1,4 +1,6 @@
 // A stream: its record, its direction, and its position update (document 01, "Stream transfer"; the Rust's `Stream`, `update_position`).
+#![tactic(auto)]
+
 ghost use Rattle.std.specs.Prelude.{◌≡◌, ◌*◌, ◌≤◌, length};
 ghost use Rattle.stream.specs.Box.{captures};
 ghost use Rattle.stream.specs.Streams.{places, list_size, fresh_of, valid_of, uncrowded_of, emptied_of};
@@ -7,7 +9,7 @@ ghost use Rattle.stream.specs.Update.{left_of, update_of};
 // Streams of the box: the first half captures, the second half plays.
 pub const STREAMS: usize = 2;
 
-#[derive(Drop)]
+#[derive(Clone, Copy)]
 pub struct Stream {
     pub descriptor: u32,
     pub offset: u32,
@@ -21,7 +23,7 @@ pub struct Stream {
 }
 
 // What a stream's registers say of its cyclic buffer: its direction, the descriptor list's address, the last descriptor's index, and the length in bytes.
-#[derive(Drop)]
+#[derive(Clone, Copy)]
 pub struct Cyclic {
     pub capture: bool,
     pub bdl: u64,
@@ -30,7 +32,7 @@ pub struct Cyclic {
 }
 
 // What a position update left beside the list.
-#[derive(Drop)]
+#[derive(Clone, Copy)]
 pub struct Updated {
     pub stream: Stream,
     pub completed: bool,

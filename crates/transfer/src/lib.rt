@@ -1,4 +1,6 @@
 // One transfer of at most a period between guest memory and a stream's host queue (document 01, "Stream transfer"; the Rust's `transfer`).
+#![tactic(auto)]
+
 ghost use Rattle.std.specs.Prelude.{◌≡◌, ◌<◌, ◌≤◌, length, take};
 ghost use Rattle.queue.specs.Queues.{capacity};
 ghost use Rattle.transfer.specs.Transfers.{left_of, silence, taken_of, captured_of, heard_of, queued_in, queued_by, frames_moved, transfer_of, TransferNeeds};
@@ -7,7 +9,7 @@ use queue::Queue;
 use stream::{Cyclic, Stream};
 
 // What a transfer left beside the lent lists: whether it succeeded, whether the limit of pending completions stopped it, the stream and its queue.
-#[derive(Drop)]
+#[derive(Clone, Copy)]
 pub struct Transferred {
     pub stream: Stream,
     pub queue: Queue,

@@ -1,5 +1,7 @@
 // A stream's turn in `advance`: its format, its opening, its position update and the transfers that are due (document 01, "Stream transfer"; the Rust's
 // `update_position`, `stream_error` and the loop body of `advance`).
+#![tactic(auto)]
+
 ghost use Rattle.std.specs.Prelude.{◌≡◌, ◌*◌, ◌<◌, ◌≤◌, length};
 ghost use Rattle.stream.specs.Box.{streams};
 ghost use Rattle.codec.specs.Codecs.{amplifier_byte_of};
@@ -20,7 +22,7 @@ use stream::{Cyclic, Stream};
 use transfer::Transferred;
 
 // What a turn reads of the registers, the codec and the host end.
-#[derive(Drop)]
+#[derive(Clone, Copy)]
 pub struct Setup {
     pub cyclic: Cyclic,
     pub connected: bool,
@@ -35,7 +37,7 @@ pub struct Setup {
 }
 
 // A stream's DMA engine: whether it runs, its status and position registers, its stream and the host's queue.
-#[derive(Drop)]
+#[derive(Clone, Copy)]
 pub struct Engine {
     pub stream: Stream,
     pub queue: Queue,
@@ -45,14 +47,14 @@ pub struct Engine {
 }
 
 // A stream and the host end that serves it.
-#[derive(Drop)]
+#[derive(Clone, Copy)]
 pub struct Attached {
     pub stream: Stream,
     pub host: Host,
 }
 
 // What a turn answers: whether its opening was refused, the stream and the host end.
-#[derive(Drop)]
+#[derive(Clone, Copy)]
 pub struct Turned {
     pub stream: Stream,
     pub host: Host,

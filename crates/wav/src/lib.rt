@@ -1,10 +1,12 @@
 // Takes as RIFF WAVE (T-02): pulled frames, 16-bit stereo, written as a file into lent space, and read back out of exactly the bytes that a write makes.
+#![tactic(auto)]
+
 ghost use Rattle.std.specs.Prelude.{◌≡◌, ◌≤◌, length, take};
 ghost use Rattle.wav.specs.Header.{header_of};
 ghost use Rattle.wav.specs.Files.{size_limit, storable, same, is_file, filled_of, fill_out, write_of, read_of};
 
 // What a call answers beside the lent space: how many bytes it wrote, its number, and the frames a second of the take. A refusal wrote none and has no rate.
-#[derive(Drop)]
+#[derive(Clone, Copy)]
 pub struct Filled {
     pub count: u64,
     pub number: u32,
@@ -101,8 +103,8 @@ pub fn write(rate: u32, frames: &[u8], into: &mut [u8]) -> Filled
         return refused(14);
     }
     let first = header(rate, frames.len() as u32);
-    bytes::copy(&first, into);
-    bytes::copy(frames, &mut into[HEADER_BYTES..count]);
+    word::copy(&first, into);
+    word::copy(frames, &mut into[HEADER_BYTES..count]);
     Filled {
         number: 0,
         rate: rate,
@@ -122,7 +124,7 @@ pub fn read(file: &[u8], into: &mut [u8]) -> Filled
         return refused(14);
     }
     let rate = word::get32(file, RATE);
-    bytes::copy(&file[HEADER_BYTES..], into);
+    word::copy(&file[HEADER_BYTES..], into);
     Filled {
         number: 0,
         rate: rate,

@@ -2,7 +2,9 @@
 //
 // A word of 4 bytes is made of two of 2, and one of 8 of two of 4, so that one law over the width proves each; the compiler makes
 // one load or one store of it.
-ghost use Rattle.std.specs.Prelude.{◌≡◌, ◌+◌, ◌-◌, ◌*◌, ◌≤◌, ◌<◌, min, max, length};
+#![tactic(auto)]
+
+ghost use Rattle.std.specs.Prelude.{◌≡◌, ◌+◌, ◌-◌, ◌*◌, ◌≤◌, ◌<◌, ◌++◌, min, max, length, take, drop};
 ghost use Rattle.word.specs.Place.{word_at, store_at};
 ghost use Rattle.word.specs.Shift.{shift_of};
 
@@ -110,6 +112,15 @@ pub fn shift(s: &mut [u8], from: usize, count: usize)
         s[i] = s[from + i];
         i += 1;
     }
+}
+
+// Copies all of `from` over the front of `into`; the rest of `into` stays.
+pub fn copy(from: &[u8], into: &mut [u8])
+    requires { length from.now ≤ length into.old }
+    ensures { into.new ≡ take (length from.now) from.now ++ drop (length from.now) into.old }
+{
+    let front = &mut into[..from.len()];
+    front.copy_from_slice(from);
 }
 
 // Numbers.

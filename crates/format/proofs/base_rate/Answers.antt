@@ -1,0 +1,12 @@
+-- `format::base_rate` meets its contract, by the one test.
+-- Assumes nothing.
+use borrow.Author.Tests.{eq-eqb, ne_eqb}
+use Rattle.format.proofs.base_rate.Goals as goal
+
+pub returns-then-word-eq0 : goal.returns-then-word-eq0
+returns-then-word-eq0 c =
+    rw (eq-eqb _ _ c.if-word-eq0.true)
+
+pub returns-else-word-eq0 : goal.returns-else-word-eq0
+returns-else-word-eq0 c =
+    rw (ne_eqb _ _ c.if-word-eq0.false)

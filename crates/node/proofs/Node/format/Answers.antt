@@ -1,0 +1,7 @@
+-- `format` is the word at byte 10.
+use borrow.Author.Rules.{rules}
+use Rattle.node.proofs.Node.format.Goals as goal
+
+pub returns : goal.returns
+returns c =
+    c.get16.ensures

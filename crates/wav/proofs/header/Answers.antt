@@ -1,0 +1,9 @@
+-- `wav::header` meets its contract: four stores into what all headers have alike.
+-- Assumes nothing.
+use borrow.Author.Rules.{rules}
+use Rattle.wav.proofs.Headers.{header-stored}
+use Rattle.wav.proofs.header.Goals as goal
+
+pub returns : goal.returns
+returns c =
+    rw (c.put32-4.ensures, c.put32-3.ensures, c.put32-2.ensures, c.put32.ensures) (header-stored _ _)

@@ -1,0 +1,16 @@
+-- `word::shift` meets its contract. The invariant: `i` bytes are moved. The measure is what is left to move. Assumes nothing.
+use Prim.Native.Nat.{ℕ, ◌-◌, ◌≤◌}
+use mathlib.Core.Path.{◌≡◌, refl, sym, ap, ◌∙◌}
+use native.Mathlib.Omega.{arith}
+use lib.ListN.{length, length-set}
+use Rattle.word.specs.Shift.{shift_of}
+use Rattle.word.proofs.Shifts.{shift_none, shift-turn}
+use Rattle.word.proofs.shift.Given as goal
+
+abbrev pub invariant-loop-i : goal.invariant-loop-i
+invariant-loop-i l =
+    (l.i ≤ l.count) × (length l.s ≡ length l.initial.s) × (l.s ≡ shift_of l.from l.i l.initial.s)
+
+abbrev pub decreases-loop-i : goal.decreases-loop-i
+decreases-loop-i l =
+    l.count - l.i
