@@ -3,7 +3,6 @@
 // crate codec_hda says what HDA 1.0a has, and where the two agree.
 #![tactic(auto)]
 
-
 ghost use Rattle.std.specs.Prelude.{◌≡◌, ◌+◌, ◌≤◌, ◌<◌, length};
 ghost use Rattle.word.specs.Place.{put_at};
 ghost use Rattle.codec.specs.Codecs.{fresh_of, verb_of, live_of, connected_of};

@@ -1,5 +1,5 @@
 -- Takes as files (T-02): written into lent space, and read back out of exactly the bytes that a write makes.
-use Rattle.std.specs.Prelude.{ℕ, ◌+◌, ◌%◌, Bool, true, false, cond, ◌&&◌, List, [], ◌∷◌, ◌++◌, eqb, leb, ltb, length, take, drop}
+use Rattle.std.specs.Prelude.{ℕ, ◌%◌, Bool, true, false, cond, ◌&&◌, List, [], ◌∷◌, ◌++◌, eqb, leb, ltb, length, take, drop}
 use Rattle.word.specs.Place.{word_at}
 use Rattle.format.specs.Format.{rates, among}
 use Rattle.wav.specs.declared.Filled.{Filled}

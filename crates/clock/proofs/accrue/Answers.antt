@@ -1,6 +1,6 @@
 -- `clock::accrue` meets its contract: seconds past the limit change nothing, and the limit on the whole frames is the limit on the frame time.
 -- Assumes nothing.
-use Rattle.std.proofs.Common.{◌%◌, ◌<◌, ◌≤◌, arith, rules}
+use Rattle.std.proofs.Common.{◌%◌, ◌<◌, ◌≤◌, arith}
 use Rattle.clock.specs.Billionths.{billion}
 use Rattle.clock.specs.Frames.{max_pending}
 use Rattle.clock.proofs.Laws.{part-bound, seconds-bound, accrued}

@@ -3,8 +3,6 @@
 use mathlib.Core.Path.{◌≡◌}
 use Prim.Native.Nat.{◌+◌, ◌*◌}
 use native.Mathlib.Omega.{arith}
-use borrow.Author.Rules.{rules}
-use borrow.Author.Tests.{not-true, not-false}
 use Rattle.format.specs.Hda.{mult_field, div_field}
 use Rattle.format.specs.Format.{rated_of, format_of}
 use Rattle.format.proofs.Laws.{refused, rated, numerator-bound}

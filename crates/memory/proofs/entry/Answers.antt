@@ -1,5 +1,4 @@
 -- `memory::entry` meets its contract: three words, each read at its place. Assumes nothing.
-use borrow.Author.Rules.{rules}
 use Rattle.memory.specs.Memory.{entry_at}
 use Rattle.memory.proofs.entry.Goals as goal
 

@@ -1,8 +1,7 @@
 -- `memory::fetch_descriptor` meets its contract: past the test, the sixteen bytes are in memory. Assumes nothing.
 use Prim.Native.Nat.{◌+◌, ◌≤◌}
 use mathlib.Core.Path.{sym, ap, ◌∙◌}
-use borrow.Author.Tests.{leb-true, leb-false, not-true, not-false}
-use borrow.Author.Rules.{rules}
+use borrow.Author.Tests.{leb-true, leb-false}
 use lib.ListN.{length}
 use Rattle.memory.specs.declared.Fetched.TheVariants.{Entry}
 use Rattle.memory.proofs.Laws.{descriptor-outside, descriptor-inside}

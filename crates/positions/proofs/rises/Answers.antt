@@ -1,5 +1,5 @@
 -- `positions::rises` meets its contract. The invariant: the positions from `i` on, from above `last`, decide the answer with whether `last` is at most `hi`. Assumes nothing.
-use Prim.Native.Nat.{◌+◌, ◌-◌, ◌≤◌}
+use Prim.Native.Nat.{◌+◌}
 use mathlib.Core.Path.{◌≡◌, refl, sym, ap, ◌∙◌}
 use mathlib.Core.Bool.{Bool, true, ◌&&◌, ◌||◌, and-false, and-true, or-true}
 use native.Mathlib.Omega.{arith}

@@ -1,13 +1,10 @@
 -- `positions::rises` meets its contract. The invariant: the positions from `i` on, from above `last`, decide the answer with whether `last` is at most `hi`. Assumes nothing.
-use Prim.Native.Nat.{◌+◌, ◌-◌, ◌≤◌}
-use mathlib.Core.Path.{◌≡◌, refl, sym, ap, ◌∙◌}
-use mathlib.Core.Bool.{Bool, true, ◌&&◌, ◌||◌, and-false, and-true, or-true}
-use native.Mathlib.Omega.{arith}
-use borrow.Author.Tests.{ne_eqb}
+use Prim.Native.Nat.{◌-◌, ◌≤◌}
+use mathlib.Core.Path.{◌≡◌}
+use mathlib.Core.Bool.{◌&&◌, ◌||◌}
 use lib.Dec.{eqb, leb}
 use lib.ListN.{drop}
 use Rattle.positions.specs.Positions.{positions_of, rises_of}
-use Rattle.positions.proofs.Scan.{rise-more, rise-low, rise-end}
 use Rattle.positions.proofs.rises.Given as goal
 
 abbrev pub invariant-loop-i : goal.invariant-loop-i

@@ -1,11 +1,10 @@
 -- `positions::spaced` meets its contract. The invariant: the positions from `i` on, behind `last`, decide the answer. Assumes nothing.
-use Prim.Native.Nat.{◌+◌, ◌-◌, ◌≤◌, ◌<◌}
+use Prim.Native.Nat.{◌+◌, ◌<◌}
 use mathlib.Core.Path.{◌≡◌, sym, ap, ◌∙◌}
 use mathlib.Core.Bool.{false}
 use native.Mathlib.Omega.{arith}
 use borrow.Author.Tests.{lt-leb}
-use lib.ListN.{drop}
-use Rattle.positions.specs.Positions.{positions_of, spaced_from, spaced_of}
+use Rattle.positions.specs.Positions.{positions_of, spaced_of}
 use Rattle.positions.proofs.Scan.{space-more, space-less, space-first, space-none, space-end, below}
 use Rattle.positions.proofs.spaced.Goals as goal
 

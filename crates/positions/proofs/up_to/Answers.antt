@@ -1,10 +1,6 @@
 -- `positions::up_to` meets its contract. The invariant: `i` are counted, and the positions from `i` on decide the rest. Assumes nothing.
-use Prim.Native.Nat.{◌+◌, ◌-◌, ◌≤◌}
-use mathlib.Core.Path.{◌≡◌}
 use native.Mathlib.Omega.{arith}
 use native.Mathlib.Nat.{zero-add}
-use lib.ListN.{drop}
-use Rattle.positions.specs.Positions.{positions_of, up_to_of}
 use Rattle.positions.proofs.Scan.{up_more, up-stop, up-end}
 use Rattle.positions.proofs.up_to.Goals as goal
 

@@ -1,10 +1,7 @@
 -- `wav::begins_with` meets its contract. The invariant: what is left to compare says what the whole comparison says.
 -- Assumes nothing.
-use Prim.Native.Nat.{◌≤◌, ◌-◌}
-use mathlib.Core.Path.{◌≡◌, refl, sym, ◌∙◌}
+use mathlib.Core.Path.{refl, sym, ◌∙◌}
 use native.Mathlib.Omega.{arith}
-use lib.ListN.{length, take, drop}
-use Rattle.wav.specs.Files.{same}
 use Rattle.wav.proofs.Same.{same_next, same_differs, same_end}
 use Rattle.wav.proofs.begins_with.Goals as goal
 

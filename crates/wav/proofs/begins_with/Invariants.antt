@@ -1,11 +1,9 @@
 -- `wav::begins_with` meets its contract. The invariant: what is left to compare says what the whole comparison says.
 -- Assumes nothing.
 use Prim.Native.Nat.{◌≤◌, ◌-◌}
-use mathlib.Core.Path.{◌≡◌, refl, sym, ◌∙◌}
-use native.Mathlib.Omega.{arith}
+use mathlib.Core.Path.{◌≡◌}
 use lib.ListN.{length, take, drop}
 use Rattle.wav.specs.Files.{same}
-use Rattle.wav.proofs.Same.{same_next, same_differs, same_end}
 use Rattle.wav.proofs.begins_with.Given as goal
 
 abbrev pub invariant-loop-at : goal.invariant-loop-at

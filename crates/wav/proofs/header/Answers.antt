@@ -1,6 +1,5 @@
 -- `wav::header` meets its contract: four stores into what all headers have alike.
 -- Assumes nothing.
-use borrow.Author.Rules.{rules}
 use Rattle.wav.proofs.Headers.{header-stored}
 use Rattle.wav.proofs.header.Goals as goal
 

@@ -1,11 +1,9 @@
 -- `wav::is_file` meets its contract: its tests are those of the definition, of a file that has a whole header.
 -- Assumes nothing.
-use Prim.Native.Nat.{ℕ, ◌-◌}
+use Prim.Native.Nat.{◌-◌}
 use mathlib.Core.Path.{◌≡◌, sym, ◌∙◌}
 use mathlib.Core.Bool.{true}
 use native.Mathlib.Omega.{arith}
-use borrow.Author.Rules.{rules}
-use borrow.Author.Tests.{not-true, not-false}
 use lib.ListN.{length}
 use Rattle.wav.specs.Files.{storable}
 use Rattle.wav.proofs.Headers.{length-header}

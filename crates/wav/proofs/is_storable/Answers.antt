@@ -1,6 +1,5 @@
 -- `wav::is_storable` meets its contract: its tests are the definition's.
 -- Assumes nothing.
-use borrow.Author.Rules.{rules}
 use Rattle.wav.proofs.is_storable.Goals as goal
 
 pub returns : goal.returns

@@ -1,6 +1,5 @@
 -- `word::get16` meets its contract: a word of two bytes is its low byte and its high byte. Assumes nothing.
 use native.Mathlib.Omega.{arith}
-use borrow.Author.Rules.{rules}
 use Rattle.word.proofs.Place.{word-pair}
 use Rattle.word.proofs.get16.Goals as goal
 

@@ -1,7 +1,6 @@
 -- `word::put16` meets its contract: a word of two bytes is stored byte by byte. Assumes nothing.
 use mathlib.Core.Path.{sym}
 use native.Mathlib.Omega.{arith}
-use borrow.Author.Rules.{rules}
 use lib.ListN.{length-set}
 use Rattle.word.proofs.Place.{store_pair}
 use Rattle.word.proofs.put16.Goals as goal

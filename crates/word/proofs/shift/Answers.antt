@@ -1,8 +1,8 @@
 -- `word::shift` meets its contract. The invariant: `i` bytes are moved. The measure is what is left to move. Assumes nothing.
-use Prim.Native.Nat.{ℕ, ◌-◌, ◌≤◌}
+use Prim.Native.Nat.{ℕ}
 use mathlib.Core.Path.{◌≡◌, refl, sym, ap, ◌∙◌}
 use native.Mathlib.Omega.{arith}
-use lib.ListN.{length, length-set}
+use lib.ListN.{length-set}
 use Rattle.word.specs.Shift.{shift_of}
 use Rattle.word.proofs.Shifts.{shift_none, shift-turn}
 use Rattle.word.proofs.shift.Goals as goal

@@ -1,10 +1,8 @@
 -- `word::shift` meets its contract. The invariant: `i` bytes are moved. The measure is what is left to move. Assumes nothing.
-use Prim.Native.Nat.{ℕ, ◌-◌, ◌≤◌}
-use mathlib.Core.Path.{◌≡◌, refl, sym, ap, ◌∙◌}
-use native.Mathlib.Omega.{arith}
-use lib.ListN.{length, length-set}
+use Prim.Native.Nat.{◌-◌, ◌≤◌}
+use mathlib.Core.Path.{◌≡◌}
+use lib.ListN.{length}
 use Rattle.word.specs.Shift.{shift_of}
-use Rattle.word.proofs.Shifts.{shift_none, shift-turn}
 use Rattle.word.proofs.shift.Given as goal
 
 abbrev pub invariant-loop-i : goal.invariant-loop-i

@@ -1,6 +1,6 @@
 -- `clock::Clock::advance` meets its contract: the ticks of the whole seconds and those of the rest are the ticks of the whole time.
 -- Assumes nothing.
-use Rattle.std.proofs.Common.{arith, rules}
+use Rattle.std.proofs.Common.{arith}
 use Rattle.clock.proofs.Laws.{advanced}
 use Rattle.clock.proofs.Clock.advance.Goals as goal
 

@@ -1,5 +1,4 @@
 -- `format` is the word at byte 10.
-use borrow.Author.Rules.{rules}
 use Rattle.node.proofs.Node.format.Goals as goal
 
 pub returns : goal.returns

@@ -1,5 +1,4 @@
 -- `put_if` stores where its test holds.
-use borrow.Author.Rules.{rules}
 use Rattle.node.proofs.Node.put_if.Goals as goal
 
 pub returns-then-t : goal.returns-then-t

@@ -1,5 +1,4 @@
 -- `put_sides` stores left, then right.
-use borrow.Author.Rules.{rules}
 use Rattle.node.proofs.Node.put_sides.Goals as goal
 
 pub returns : goal.returns
