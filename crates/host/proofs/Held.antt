@@ -11,4 +11,4 @@ use Rattle.host.specs.contracts.Host as host
 
 pub queues-held : (h : Host) (vs : List Val) → Is host.the_row h vs → length h.queues ≡ streams
 queues-held h vs s =
-    sym (length-map h.queues (queue.the_field).into) ∙ s.1.1.1.1.1.0.1.0.1
+    s.1.1.1.1.1.0.1.0.1

@@ -20,7 +20,7 @@ use Rattle.host_record.specs.Typed.{TypedHost}
 queue-held : (q : Queue) (vs : List Val) → Is queue.the_row q vs → Fits 4 q.length
 queue-held q vs s = s.1.1.1.0.1
 
-each-held : (qs : List Queue) (us : List Val) → shadow (each (queue.the_field).row.Denot (queue.the_field).row.own_val (map (queue.the_field).into qs) us)
+each-held : (qs : List Queue) (us : List Val) → shadow (each (queue.the_row).Denot (queue.the_row).own_val qs us)
     → (i : ℕ) → i < length qs → Fits 4 (get_or qs i closed).length
 each-held [] us s i b = absurd (not-suc-le-zero b)
 each-held (q ∷ qs) [] s i b = absurd s
