@@ -1,0 +1,11 @@
+-- `pci::show` meets its contract: a branch each way. Assumes nothing.
+use borrow.Author.Rules.{rules}
+use Rattle.pci.proofs.show.Goals as goal
+
+pub returns-then-on : goal.returns-then-on
+returns-then-on c =
+    rw c.if-on.true
+
+pub returns-else-on : goal.returns-else-on
+returns-else-on c =
+    rw c.if-on.false
