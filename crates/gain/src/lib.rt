@@ -421,7 +421,7 @@ fn is_blockwise(factor: f64) -> bool
 // Each of the first n words scaled.
 fn scale_words(words: &mut [u16], n: usize, factor: f64)
     requires n_in_bounds { n ≤ length words.old }
-    requires t { T (positive factor) }
+    requires factor_is_positive { T (positive factor) }
     ensures { ScaledWords n (Factor factor) words.old words.new }
 {
     let mut k = 0;

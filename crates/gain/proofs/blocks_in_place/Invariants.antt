@@ -1,0 +1,14 @@
+-- `blocks_in_place` meets its contract. The frames before i are done, and the others as they were. Assumes nothing.
+use mathlib.Core.Path.{◌≡◌}
+use Prim.Native.Nat.{◌-◌, ◌%◌, ◌≤◌}
+use lib.ListN.{length}
+use Rattle.gain.specs.Fast.{AmplifiedTo, SameFrom}
+use Rattle.gain.proofs.blocks_in_place.Given as goal
+
+abbrev pub invariant-loop-i : goal.invariant-loop-i
+invariant-loop-i l =
+    (length l.pcm ≡ length l.initial.pcm) × (l.i ≤ l.whole) × (l.i % 4 ≡ 0) × AmplifiedTo l.i l.left l.right l.initial.pcm l.pcm × SameFrom l.i l.initial.pcm l.pcm × (length l.lefts ≡ 64) × (length l.rights ≡ 64) × (l.whole % 4 ≡ 0) × (l.whole ≤ length l.initial.pcm)
+
+abbrev pub decreases-loop-i : goal.decreases-loop-i
+decreases-loop-i l =
+    l.whole - l.i

@@ -1,0 +1,9 @@
+-- `is_blockwise` meets its contract. Assumes nothing.
+use mathlib.Core.Path.{refl}
+use lib.Ieee.{of_bits}
+use Rattle.gain.proofs.is_blockwise.Goals as goal
+
+pub returns : goal.returns
+unfolding of_bits
+returns c =
+    refl
