@@ -1,5 +1,5 @@
-// A reader over the bytes of a saved state: it holds the slice, and the place where the unread bytes begin. Its functions are thin and
-// proved by walks; the work is done below them by covered functions, and `field` and `run`, with plain parameters, are for covered callers.
+// A reader over the bytes of a saved state: it holds the slice, and the place where the unread bytes begin. Its functions are thin: the
+// work is done below them, on the slice alone, and `field` and `run`, with plain parameters, are for callers that read at places of their own.
 #![tactic(auto)]
 
 ghost use Rattle.std.specs.Prelude.{◌≡◌, ◌+◌, ◌≤◌, length, ltb};

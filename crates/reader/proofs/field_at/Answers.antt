@@ -1,27 +1,13 @@
 -- `reader::field_at` meets its contract. The invariant: v is the number of the bytes from `i` on. Assumes nothing.
-use Prim.Native.Nat.{◌≤◌, ◌<◌, ◌+◌, ◌-◌, ◌^◌}
-use mathlib.Core.Path.{◌≡◌, sym, ap, ◌∙◌}
+use Prim.Native.Nat.{◌<◌, ◌+◌, ◌-◌, ◌^◌}
+use mathlib.Core.Path.{sym, ap, ◌∙◌}
 use native.Mathlib.Omega.{arith}
-use borrow.Author.Rules.{rules}
 use borrow.Author.Tests.{ltb-true, ltb-false}
-use lib.ListN.{length}
-use Rattle.word.specs.Place.{word_at}
 use Rattle.reader.specs.Fields.{took_of}
 use Rattle.reader.specs.declared.Got.TheVariants.{Value}
 use Rattle.reader.proofs.Fields.{field-there, field_cut}
 use Rattle.reader.proofs.Number.{none, all, one_more, room}
-use Rattle.reader.proofs.field_at.Reads as reads
-use Rattle.reader.proofs.field_at.Lts as lts
-use Rattle.reader.proofs.cut.Reads as cut-reads
 use Rattle.reader.proofs.field_at.Goals as goal
-
--- within the loop the number so far leaves room for another byte
-so_far : (c : lts.In-loop (cut-reads.Asked, cut-reads.Learnt) reads.Pre reads.Post invariant-loop decreases-loop) → c.before.loop.v < 2 ^ 56
-so_far c =
-    let a = c.before.before.before.before.before.args in
-    let l = c.before.loop in
-    room a.s.now a.at a.n l.i l.v (omega arith) l.invariant.1 l.invariant.0 l.invariant.2 c.before.before.before.before.before.requires
-    (λ k. (c.before.before.before.before.shared-slice-known.given k).fits)
 
 pub returns-then-short : goal.returns-then-short
 returns-then-short c =
@@ -39,7 +25,11 @@ overflow_sub-i c =
 
 pub overflow_mul-v : goal.overflow_mul-v
 overflow_mul-v c =
-    omega (arith, so_far c)
+    let a = c.args in
+    let l = c.loop-i in
+    -- the number so far leaves room for another byte
+    let so_far : l.v < 2 ^ 56 = room a.s.now a.at a.n l.i l.v (omega arith) l.invariant.1 l.invariant.0 l.invariant.2 c.requires (λ k. (c.type_inv.s k).fits) in
+    omega arith
 
 pub overflow_add-v : goal.overflow_add-v
 overflow_add-v c =
@@ -57,7 +47,10 @@ overflow_cast-v c =
 pub overflow_add-v-in-loop-i : goal.overflow_add-v-in-loop-i
 overflow_add-v-in-loop-i c =
     let a = c.args in
-    omega (arith, so_far c.before, c.type_inv.s (a.at + (c.loop-i.i - 1)))
+    let l = c.loop-i in
+    -- the number so far leaves room for another byte
+    let so_far : l.v < 2 ^ 56 = room a.s.now a.at a.n l.i l.v (omega arith) l.invariant.1 l.invariant.0 l.invariant.2 c.requires (λ k. (c.type_inv.s k).fits) in
+    omega (arith, c.type_inv.s (a.at + (c.loop-i.i - 1)))
 
 pub loop-i-smaller : goal.loop-i-smaller
 loop-i-smaller c =
