@@ -132,7 +132,7 @@ fn downstream_step(host: Host, queues: &[u8], n: u32) -> Set
     Set { number: 0, host: h }
 }
 
-// The three settings where the caller has the record. Each is thin, so that one law proves all three.
+// The three settings where the caller has the record. Each is thin: the step above on a copy, which then takes the record's place.
 
 pub fn set_playback_fails(host: &mut Host, queues: &[u8], fails: bool) -> u32
     ensures { setting_of result host.new ≡ playback_fails_of host.old (length queues.now) fails }
