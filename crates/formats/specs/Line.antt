@@ -1,5 +1,9 @@
--- A line of the program's output (document 01, Format word): a word as four hexadecimal digits, a space, and its rate in decimal. In ASCII.
-use Rattle.std.specs.Prelude.{ℕ, ◌+◌, ◌/◌, ◌%◌, cond, List, [], ◌∷◌, ltb}
+-- The program's output (document 01, Format word): for each word that the device takes, rising, a line with the word as four hexadecimal digits, a space, and
+-- its rate in decimal. In ASCII.
+use Rattle.std.specs.Prelude.{ℕ, zero, suc, ◌+◌, ◌/◌, ◌%◌, cond, List, [], ◌∷◌, ◌++◌, ltb}
+use Rattle.format.specs.declared.Format.{Format}
+use Rattle.format.specs.declared.Format.TheVariants.{Unsupported, Rate}
+use Rattle.format.specs.Format.{format_of}
 
 -- the digit that stands for a number below 16, in lower case
 unfoldable pub digit_of : ℕ → ℕ
@@ -20,3 +24,16 @@ line_of word rate =
     ∷ digit_of (rate % 10)
     ∷ 10
     ∷ []
+
+-- a word's line, where the device takes the word
+abbrev pub shown_as : ℕ → Format → List ℕ
+shown_as word Unsupported = []
+shown_as word (Rate rate) = line_of word rate
+
+unfoldable pub shown_of : ℕ → List ℕ
+shown_of word = shown_as word (format_of word)
+
+-- the lines of the words below a number, rising
+unfoldable pub shown_below : ℕ → List ℕ
+shown_below zero = []
+shown_below (suc word) = shown_below word ++ shown_of word

@@ -1,11 +1,13 @@
 // Prints every format word that the device takes, as four hexadecimal digits, and its rate, rising (document 01, Format word).
 #![tactic(auto)]
 
-ghost use Rattle.std.specs.Prelude.{◌≡◌, ◌<◌};
-ghost use Rattle.formats.specs.Line.{digit_of, line_of};
+ghost use Rattle.std.specs.Prelude.{◌≡◌, ◌<◌, OnOk};
+ghost use Rattle.std.specs.Io.KnownBytes.{Appends};
+ghost use Rattle.formats.specs.Line.{digit_of, line_of, shown_of, shown_below};
 
 use format::Format;
-use libc::STDOUT_FILENO;
+use std::io;
+use std::io::Write;
 
 // The digit that stands for a number below 16.
 fn digit(n: u32) -> u8
@@ -35,19 +37,29 @@ fn line(word: u16, rate: u32) -> [u8; 11]
     ]
 }
 
-// Prints a word's line where the device takes the word.
-fn show(word: u16) {
+// Writes a word's line where the device takes the word.
+fn show<W: Write>(out: &mut W, word: u16) -> io::Result<()>
+    ensures { OnOk result (Appends (W.contents out.old) (W.contents out.new) (shown_of word)) }
+{
     match format::decode(word) {
         Format::Rate(rate) => {
             let text = line(word, rate);
-            io::write_all(STDOUT_FILENO, &text);
+            out.write_all(&text)
         }
-        Format::Unsupported => {}
+        Format::Unsupported => Ok(()),
     }
 }
 
-fn main() {
+// Writes the lines of all words.
+fn show_all<W: Write>(out: &mut W) -> io::Result<()>
+    ensures { OnOk result (Appends (W.contents out.old) (W.contents out.new) (shown_below 65536)) }
+{
     for word in 0..=u16::MAX {
-        show(word);
+        show(out, word)?;
     }
+    Ok(())
+}
+
+fn main(rt: HostRuntime) -> io::Result<()> {
+    show_all(&mut io::writer(&rt))
 }
