@@ -54,15 +54,13 @@ def apply(paths, crate, folder):
 
 
 def copy(folder):
-    """Crates and what was proved of them."""
-    for part in ('crates', 'target'):
-        if os.path.isdir(part):
-            shutil.copytree(part, os.path.join(folder, part), ignore=shutil.ignore_patterns('rust', 'c', 'staticlib', 'must-fail'))
+    """The crates alone: a check there begins with what a check of the same crate here kept (`rt help`)."""
+    shutil.copytree('crates', os.path.join(folder, 'crates'), ignore=shutil.ignore_patterns('out', 'must-fail'))
     shutil.copy('crates.txt', folder)
 
 
 def check(crate, folder):
-    """The exit status of `rt check` there, and the lines that it wrote."""
-    run = subprocess.run(['rt', 'check', crate], cwd=folder, capture_output=True, text=True)
+    """The exit status of `rt check` of that crate there, and the lines that it wrote."""
+    run = subprocess.run(['rt', 'check'], cwd=os.path.join(folder, 'crates', crate), capture_output=True, text=True)
     text = (run.stdout + run.stderr).replace(os.path.realpath(folder) + '/', '')
     return run.returncode, text.split('\n')
