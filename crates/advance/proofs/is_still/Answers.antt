@@ -4,14 +4,10 @@ use borrow.Author.Rules.{rules}
 use lib.ListN.{drop}
 use lib.Seq.{get_or-take, get_or-drop}
 use Rattle.record.specs.Loads.{device_at}
-use Rattle.advance.proofs.is_still.Statement.{statement}
-use Rattle.advance.proofs.is_still.Tie as tie
+use Rattle.advance.proofs.is_still.Goals as goal
 
-returns : tie.Need-returns
+pub returns : goal.returns
 unfolding device_at
 returns c =
-    let b = c.before.before.args.device.now in
+    let b = c.args.device.now in
     rw (get_or-take 256 (drop 262 b) 8 0 (omega arith), get_or-drop 262 b 8 0)
-
-pub is-still-spec : {M : Type 1} → statement M
-is-still-spec = tie.close (tie.spec (λ c. search rules) (λ c. search rules) (λ c. search rules) returns)
