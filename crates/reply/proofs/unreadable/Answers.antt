@@ -1,0 +1,12 @@
+-- `unreadable` is `unreadable_of`: by the test of the spaces.
+use mathlib.Core.Path.{sym, ◌∙◌}
+use borrow.Author.Rules.{rules}
+use Rattle.reply.proofs.unreadable.Goals as goal
+
+pub returns-then-is_short : goal.returns-then-is_short
+returns-then-is_short c =
+    rw (sym c.is_short.ensures ∙ c.if-is_short.true)
+
+pub returns-else-is_short : goal.returns-else-is_short
+returns-else-is_short c =
+    rw (sym c.is_short.ensures ∙ c.if-is_short.false)
