@@ -49,7 +49,8 @@ module _ {x i : ℕ} where
   masked-streams : {l o : List ℕ} (n j : ℕ) → j + n ≡ streams → Masked x i l o → Masked x i (each_of always align_stream_of n j l) (each_of always align_stream_of n j o)
   unfolding each_of
   masked-streams zero j e m = m
-  masked-streams (suc n) j e m = masked-streams n (j + 1) (omega arith) (masked-keep (bdpl j) 0x80 (omega arith) m)
+  masked-streams {l = l} {o = o} (suc n) j e m =
+      masked-streams {l = keep_bits (bdpl j) 0x80 l} {o = keep_bits (bdpl j) 0x80 o} n (j + 1) (omega arith) (masked-keep (bdpl j) 0x80 (omega arith) m)
 
 module _ {regs : List ℕ} (f : File regs) where
   pub byte-align : (i : ℕ) → i < size → byte_at (align_of regs) i ≡ bit_and (byte_at regs i) (alignment i)
