@@ -50,13 +50,13 @@ midway-plain m a b few small h =
 run : {l : List ℕ} → Midway l → (link : Link) (a : ℕ) (bs : List ℕ) → Bytes bs → a + length bs ≤ size → Plain a bs
     → align_of (bytes_of (front_of l link) a bs).regs ≡ after_write (align_of l) a bs
 unfolding bytes_of
-run m link a [] small few h = refl
-run {l} m link a (b ∷ bs) small few h =
+run {l = l} m link a [] small few h = refl
+run {l = l} m link a (b ∷ bs) small few h =
     let p = masked a b h.0 in
     let inside : a < size = omega arith in
     let next = byte-writes m.file m.regular a b inside (small 0) h.0 in
     ap (λ (x : Front). align_of (bytes_of x (a + 1) bs).regs) (sym (byte-plain (front_of l link) a b inside (rw (p.write-pointer, p.command))))
-    ∙ run (midway-plain m a b inside (small 0) h.0) link (a + 1) bs (λ k. small (suc k)) (omega arith) h.1
+    ∙ run {l = write_byte_of l a b} (midway-plain m a b inside (small 0) h.0) link (a + 1) bs (λ k. small (suc k)) (omega arith) h.1
     ∙ ap (λ (k : List ℕ). after_write k (a + 1) bs) next
 
 -- A write of plain bytes does to the registers what the table says, with the exceptions, byte by byte.
