@@ -1,0 +1,49 @@
+-- `bar_write` is `behind` `bar_write_of`: a write to the registers, unreadable, or the call on what the records hold.
+use mathlib.Core.Path.{sym, ◌∙◌}
+use borrow.Author.Rules.{rules}
+use borrow.Author.Tests.{not-true, not-false}
+use Rattle.device.specs.Machines.{done_of}
+use Rattle.hda.specs.Calls.{bar_write_of}
+use Rattle.reply.proofs.Records.{device-sized, host-sized, device-fits, host-fits}
+use Rattle.port_device.specs.Calls.{lent}
+use Rattle.port_device.proofs.Outcomes.{unreadable-outcome, done-outcome, bar-zero}
+use Rattle.port_device.proofs.bar_write.Goals as goal
+
+pub returns-then-bar-eq0 : goal.returns-then-bar-eq0
+returns-then-bar-eq0 c =
+    let a = c.args in
+    c.write.ensures ∙ bar-zero a.bar a.offset a.bytes.now (lent a.device.now a.host.now a.lists.now a.queues.now a.memory.now) c.if-bar-eq0.true
+
+pub returns-then-not-is_machine : goal.returns-then-not-is_machine
+returns-then-not-is_machine c =
+    let a = c.args in
+    unreadable-outcome (bar_write_of a.bar a.offset a.bytes.now) (lent a.device.now a.host.now a.lists.now a.queues.now a.memory.now)
+    (sym c.is_machine.ensures ∙ c.if-not-is_machine.true) c.unreadable.result c.unreadable.ensures
+
+pub load_device-d-requires : goal.load_device-d-requires
+load_device-d-requires c =
+    let a = c.args in
+    device-fits a.device.now a.host.now (sym c.is_machine.ensures ∙ c.if-not-is_machine.false)
+
+pub load_host-h-requires : goal.load_host-h-requires
+load_host-h-requires c =
+    let a = c.args in
+    host-fits a.device.now a.host.now (sym c.is_machine.ensures ∙ c.if-not-is_machine.false)
+
+pub stored-requires : goal.stored-requires
+stored-requires c =
+    let a = c.args in
+    let r = sym c.is_machine.ensures ∙ c.if-not-is_machine.false in
+    (device-sized a.device.now a.host.now r, host-sized a.device.now a.host.now r)
+
+pub returns : goal.returns
+returns c =
+    let s = c.stored in
+    let k = c.bar_write-a in
+    let h = c.load_host-h in
+    let d = c.load_device-d in
+    let a = c.args in
+    done-outcome (bar_write_of a.bar a.offset a.bytes.now) (lent a.device.now a.host.now a.lists.now a.queues.now a.memory.now)
+    (sym c.is_machine.ensures ∙ c.if-not-is_machine.false) d.result h.result d.ensures h.ensures
+    (done_of k.result a.lists.now a.queues.now k.new.memory) k.ensures
+    s.result s.new.device s.new.host s.ensures

@@ -1,0 +1,7 @@
+-- `carried` is `carried_reply`.
+use borrow.Author.Rules.{rules}
+use Rattle.port_device.proofs.carried.Goals as goal
+
+pub returns : goal.returns
+returns c =
+    rw (c.reply.ensures, c.is_sent.ensures)

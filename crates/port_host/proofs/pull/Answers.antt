@@ -1,0 +1,30 @@
+-- `pull` is `pull_of`: unreadable, or the driver's call on what the record holds.
+use mathlib.Core.Path.{sym, ◌∙◌}
+use borrow.Author.Rules.{rules}
+use borrow.Author.Tests.{not-true, not-false}
+use Rattle.driver.specs.Calls.{pull_answer}
+use Rattle.reply.proofs.Records.{host-length, host-room}
+use Rattle.port_host.proofs.Outcomes.{pull-unreadable, pull-done}
+use Rattle.port_host.proofs.pull.Goals as goal
+
+pub returns-then-not-is_host : goal.returns-then-not-is_host
+returns-then-not-is_host c =
+    let a = c.args in
+    pull-unreadable a.host.now a.queues.now a.into.now (sym c.is_host.ensures ∙ c.if-not-is_host.true) c.unreadable.result c.unreadable.ensures
+
+pub load_host-h-requires : goal.load_host-h-requires
+load_host-h-requires c =
+    host-room c.args.host.now (sym c.is_host.ensures ∙ c.if-not-is_host.false)
+
+pub fed-requires : goal.fed-requires
+fed-requires c =
+    host-length c.args.host.now (sym c.is_host.ensures ∙ c.if-not-is_host.false)
+
+pub returns : goal.returns
+returns c =
+    let s = c.fed in
+    let k = c.pull-f in
+    let l = c.load_host-h in
+    let a = c.args in
+    pull-done a.host.now a.queues.now a.into.now (sym c.is_host.ensures ∙ c.if-not-is_host.false) l.result l.ensures
+    (pull_answer k.result k.new.queues k.new.into) k.ensures s.result s.new.host s.ensures

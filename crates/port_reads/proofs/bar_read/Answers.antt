@@ -1,0 +1,32 @@
+-- `bar_read` is its definition: unreadable, or the read of what the records hold. Assumes nothing.
+use mathlib.Core.Path.{sym, ◌∙◌}
+use borrow.Author.Rules.{rules}
+use borrow.Author.Tests.{not-true, not-false}
+use lib.ListN.{length}
+use Rattle.reply.proofs.Records.{device-sized, host-fits}
+use Rattle.port_reads.proofs.Outcomes.{bar-unreadable, bar-done}
+use Rattle.port_reads.proofs.bar_read.Goals as goal
+
+pub returns-then-not-is_machine : goal.returns-then-not-is_machine
+returns-then-not-is_machine c =
+    let a = c.args in
+    bar-unreadable a.device.now a.host.now a.lists.now (length a.queues.now) (sym c.is_machine.ensures ∙ c.if-not-is_machine.true)
+    c.unreadable.result c.unreadable.ensures a.bar a.offset a.into.now
+
+pub load_host-h-requires : goal.load_host-h-requires
+load_host-h-requires c =
+    let a = c.args in
+    host-fits a.device.now a.host.now (sym c.is_machine.ensures ∙ c.if-not-is_machine.false)
+
+pub bar_read-s-requires : goal.bar_read-s-requires
+bar_read-s-requires c =
+    let a = c.args in
+    device-sized a.device.now a.host.now (sym c.is_machine.ensures ∙ c.if-not-is_machine.false)
+
+pub returns : goal.returns
+returns c =
+    let s = c.bar_read-s in
+    let h = c.load_host-h in
+    let a = c.args in
+    bar-done a.device.now a.host.now a.lists.now (length a.queues.now) (sym c.is_machine.ensures ∙ c.if-not-is_machine.false)
+    h.result h.ensures c.reply.result a.into.now s.new.into s.result c.reply.ensures a.bar a.offset s.ensures
