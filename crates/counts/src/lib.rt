@@ -2,4 +2,3 @@
 // with jitter (crate jitter) runs one `advance` for all times that no count tells apart, on scratch that holds no more than that. specs/Counts.antt has what two machines have in common; proofs/ the
 // theorem, `advance-alike`; there is no code.
 #![tactic(auto)]
-

@@ -1,0 +1,66 @@
+-- `bounds` meets its contract: each refusal in order, then the answer. Assumes nothing.
+use Prim.Native.Nat.{◌≤◌}
+use mathlib.Core.Path.{◌≡◌, sym, ap, ◌∙◌}
+use native.Mathlib.Omega.{arith}
+use lib.ListN.{length}
+use Rattle.device.specs.Machines.{Machine, machine}
+use Rattle.record.specs.Loads.{device_at}
+use Rattle.jitter.specs.declared.Bounded.{Bounded}
+use Rattle.jitter.specs.Calls.{Scratch, scratch, bounding_of}
+use Rattle.jitter.proofs.Outcomes.{refused-check, refused-times, refused-space, enough, accepted}
+use borrow.Author.Rules.{rules}
+use Rattle.jitter.proofs.bounds.Goals as goal
+
+pub returns-then-number-ne0 : goal.returns-then-number-ne0
+returns-then-number-ne0 c =
+    let a = c.args in
+    let x = (machine (device_at c.args.device.now) c.args.host c.args.lists.now c.args.queues.now c.args.memory.now) in
+    let s = (scratch c.args.lists2.now c.args.queues2.now c.args.memory2.now) in
+    let into = a.into.now in
+    ap (λ (b : Bounded). bounding_of b s into) c.answer.ensures
+    ∙ refused-check a.shortest a.longest x s into c.check-number.result c.check-number.ensures (λ z. omega arith)
+
+pub returns-then-longest-shortest : goal.returns-then-longest-shortest
+returns-then-longest-shortest c =
+    let a = c.args in
+    let x = (machine (device_at c.args.device.now) c.args.host c.args.lists.now c.args.queues.now c.args.memory.now) in
+    let s = (scratch c.args.lists2.now c.args.queues2.now c.args.memory2.now) in
+    let into = a.into.now in
+    let none : c.check-number.result ≡ 0 = omega arith in
+    ap (λ (b : Bounded). bounding_of b s into) c.answer-then-longest-shortest.ensures ∙ refused-times a.shortest a.longest x s into (sym c.check-number.ensures ∙ none) (omega arith)
+
+pub returns-then-is_short : goal.returns-then-is_short
+returns-then-is_short c =
+    let a = c.args in
+    let x = (machine (device_at c.args.device.now) c.args.host c.args.lists.now c.args.queues.now c.args.memory.now) in
+    let s = (scratch c.args.lists2.now c.args.queues2.now c.args.memory2.now) in
+    let into = a.into.now in
+    let none : c.check-number.result ≡ 0 = omega arith in
+    ap (λ (b : Bounded). bounding_of b s into) c.answer-then-is_short.ensures
+    ∙ refused-space a.shortest a.longest x s into (sym c.check-number.ensures ∙ none) (omega arith) (sym c.is_short.ensures ∙ c.if-is_short.true)
+
+pub bounds_step-requires : goal.bounds_step-requires
+bounds_step-requires c =
+    let a = c.args in
+    let x = (machine (device_at c.args.device.now) c.args.host c.args.lists.now c.args.queues.now c.args.memory.now) in
+    let s = (scratch c.args.lists2.now c.args.queues2.now c.args.memory2.now) in
+    let into = a.into.now in
+    let none : c.check-number.result ≡ 0 = omega arith in
+    let room = enough x s (length into) (sym c.is_short.ensures ∙ c.if-is_short.false) in (
+      (omega arith, room.3),
+      record { sized = c.requires.0; device = c.requires.1; passes = sym c.check-number.ensures ∙ none; lists = room.0; queues = room.1; memory = room.2 },
+    )
+
+pub returns : goal.returns
+returns c =
+    let a = c.args in
+    let x = (machine (device_at c.args.device.now) c.args.host c.args.lists.now c.args.queues.now c.args.memory.now) in
+    let s = (scratch c.args.lists2.now c.args.queues2.now c.args.memory2.now) in
+    let into = a.into.now in
+    let none : c.check-number.result ≡ 0 = (let the_zero_before : (checked-before (search)).check.result ≡ 0 = omega arith in the_zero_before) in
+    let step = c.bounds_step in
+    let left = step.new.1.1.1.1.1.1.1 in
+    let zeros = scratch left.0 left.1.0 left.1.1.0 in
+    let result = left.1.1.1.0 in
+    ap (λ (b : Bounded). bounding_of b zeros result) c.answer-2.ensures
+    ∙ accepted a.shortest a.longest x s into (sym c.check-number.ensures ∙ none) ((let the_order_before : (start-before (checked-before (search))).args.shortest ≤ (start-before (checked-before (search))).args.longest = omega arith in the_order_before)) (sym c.is_short.ensures ∙ c.if-is_short.false) zeros result step.ensures.memory2_after step.ensures.into_after

@@ -1,0 +1,12 @@
+-- `movable` is `movable_by` of the frames due. Assumes nothing.
+use Rattle.jitter.proofs.Cases.{movable-all, movable-room}
+use borrow.Author.Rules.{rules}
+use Rattle.jitter.proofs.movable.Goals as goal
+
+pub returns-then-capture : goal.returns-then-capture
+returns-then-capture c =
+    movable-all c.args.capture c.args.queued c.frames_by-frames.result _ (search rules) c.frames_by-frames.ensures
+
+pub returns : goal.returns
+returns c =
+    movable-room c.args.capture c.args.queued c.frames_by-frames.result _ c.difference.result c.least.result (search rules) c.frames_by-frames.ensures c.difference.ensures c.least.ensures
