@@ -46,10 +46,10 @@ bounds_step-requires c =
     let s = (scratch c.args.lists2.now c.args.queues2.now c.args.memory2.now) in
     let into = a.into.now in
     let none : c.check-number.result ≡ 0 = omega arith in
-    let room = enough x s (length into) (sym c.is_short.ensures ∙ c.if-is_short.false) in (
-      (omega arith, room.3),
-      record { sized = c.requires.0; device = c.requires.1; passes = sym c.check-number.ensures ∙ none; lists = room.0; queues = room.1; memory = room.2 },
-    )
+    let room = enough x s (length into) (sym c.is_short.ensures ∙ c.if-is_short.false) in record {
+      shortest_le_longest = (omega arith, room.3);
+      spread_needs = record { sized = c.requires.0; device = c.requires.1; passes = sym c.check-number.ensures ∙ none; lists = room.0; queues = room.1; memory = room.2 };
+    }
 
 pub returns : goal.returns
 returns c =
@@ -57,10 +57,9 @@ returns c =
     let x = (machine (device_at c.args.device.now) c.args.host c.args.lists.now c.args.queues.now c.args.memory.now) in
     let s = (scratch c.args.lists2.now c.args.queues2.now c.args.memory2.now) in
     let into = a.into.now in
-    let none : c.check-number.result ≡ 0 = (let the_zero_before : (checked-before (search)).check.result ≡ 0 = omega arith in the_zero_before) in
+    let none : c.check-number.result ≡ 0 = (let the_zero_before : c.check-number.result ≡ 0 = omega arith in the_zero_before) in
     let step = c.bounds_step in
-    let left = step.new.1.1.1.1.1.1.1 in
-    let zeros = scratch left.0 left.1.0 left.1.1.0 in
-    let result = left.1.1.1.0 in
+    let zeros = scratch step.new.lists2 step.new.queues2 step.new.memory2 in
+    let result = step.new.into in
     ap (λ (b : Bounded). bounding_of b zeros result) c.answer-2.ensures
-    ∙ accepted a.shortest a.longest x s into (sym c.check-number.ensures ∙ none) ((let the_order_before : (start-before (checked-before (search))).args.shortest ≤ (start-before (checked-before (search))).args.longest = omega arith in the_order_before)) (sym c.is_short.ensures ∙ c.if-is_short.false) zeros result step.ensures.memory2_after step.ensures.into_after
+    ∙ accepted a.shortest a.longest x s into (sym c.check-number.ensures ∙ none) ((let the_order_before : c.args.shortest ≤ c.args.longest = omega arith in the_order_before)) (sym c.is_short.ensures ∙ c.if-is_short.false) zeros result step.ensures.memory2_after step.ensures.into_after

@@ -11,4 +11,4 @@ returns c =
     let a = c.args in
     let x = machine (device_at a.device.now) a.host a.lists.now a.queues.now a.memory.now in
     let w = c.spread_of-spread in
-    let left = w.new.1.1.1.1.1 in record { into_after = c.put_result.ensures ∙ result-put w.result x a.shortest a.longest a.into.now w.ensures; memory2_after = c.clear.ensures ∙ cleared-same left.0 left.1.0 left.1.1.0 a.lists2.now a.queues2.now a.memory2.now w.auto.lists2 w.auto.queues2 w.auto.memory2 }
+    record { into_after = c.put_result.ensures ∙ result-put w.result x a.shortest a.longest a.into.now w.ensures; memory2_after = c.clear.ensures ∙ cleared-same w.new.lists2 w.new.queues2 w.new.memory2 a.lists2.now a.queues2.now a.memory2.now w.auto.lists2 w.auto.queues2 w.auto.memory2 }

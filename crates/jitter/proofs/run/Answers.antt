@@ -17,6 +17,5 @@ returns c =
     let r = c.advance in
     let k = c.copy in
     let a = c.args in
-    let o = r.new.1.1 in
     let same = record-copied a.device.now _ k.new.into c.requires.0 refl k.ensures in
-    run-done r.result a.device.now k.new.into r.new.device a.lists.now a.queues.now a.memory.now o.0 o.1.0 o.1.1.0 c.counts.result a.host a.nanos same r.ensures.memory_after c.counts.ensures
+    run-done r.result a.device.now k.new.into r.new.device a.lists.now a.queues.now a.memory.now r.new.lists r.new.queues r.new.memory c.counts.result a.host a.nanos same r.ensures.memory_after c.counts.ensures
