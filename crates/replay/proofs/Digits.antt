@@ -1,8 +1,7 @@
 -- Laws of hexadecimal digits: a character's value by where it lies, and one byte more of a text. Assumes nothing.
 use Rattle.std.proofs.Common.{◌≡◌, ℕ, suc, ◌+◌, ◌-◌, ◌*◌, ◌/◌, ◌%◌, ◌<◌, ◌≤◌, List, [], ◌∷◌, ◌++◌, length, get_or, take, drop, set, sym, ap, ◌∙◌, append_assoc, append-nil, add-one, arith, length-set, drop_of_length-le, take_all, drop-cons, le-leb}
 use borrow.Author.Tests.{lt-leb}
-use Rattle.io.specs.Digits.{hex_digit_ascii}
-use Rattle.replay.specs.Hex.{value_of, pair_of, from_hex, to_hex}
+use Rattle.replay.specs.Hex.{hex_digit_ascii, value_of, pair_of, from_hex, to_hex}
 use Rattle.replay.proofs.Stores.{stored}
 
 pub value-below : (c : ℕ) → c < 48 → 0 ≡ value_of c

@@ -3,12 +3,11 @@
 -- judged the same. Assumes nothing.
 use Rattle.std.proofs.Common.{◌≡◌, ℕ, zero, suc, ◌+◌, ◌/◌, ◌%◌, ◌^◌, ◌<◌, ◌≤◌, Bool, true, false, cond, eqb, ltb, ◌≢◌, List, [], ◌∷◌, ◌++◌, length, get_or, sym, refl, ap, ◌∙◌, arith, ltb-false, ltb-true, le-ltb, lt-ltb, ne_eqb, le-leb}
 use borrow.Author.Tests.{lt-leb}
-use Rattle.io.specs.Digits.{hex_digit_ascii}
 use Rattle.word.specs.Value.{Bytes}
 use Rattle.replay.specs.declared.verdict.Verdict.{Verdict}
 use Rattle.replay.specs.declared.verdict.Verdict.TheVariants.{Same, Differs, Unreadable}
 use Rattle.replay.specs.declared.verdict.Tally.{Tally}
-use Rattle.replay.specs.Hex.{value_of, pair_of, from_hex, to_hex}
+use Rattle.replay.specs.Hex.{hex_digit_ascii, value_of, pair_of, from_hex, to_hex}
 use Rattle.replay.specs.Answers.{answered, leaf_answer, leaf_of, answer_of}
 use Rattle.replay.specs.Verdict.{own_of, verdict_of, line_verdict_of, counted_of, line_counted}
 use Rattle.replay.specs.Lines.{longer, lines_of, count_all, tally_of}

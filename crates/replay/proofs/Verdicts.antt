@@ -1,5 +1,6 @@
 -- Laws of the verdict on a line: equal texts, and each verdict from what the calls on the way gave. Assumes nothing.
 use Rattle.std.proofs.Common.{◌≡◌, ℕ, ◌-◌, ◌*◌, ◌/◌, ◌%◌, ◌<◌, ◌≤◌, Bool, true, false, cond, eqb, List, [], ◌∷◌, ◌++◌, length, get_or, take, drop, sym, refl, ap, ◌∙◌, arith, length-drop, length-take-le, take_all, eq-eqb, ne_eqb, eqb-true, le-leb}
+use lib.Pointwise.{pointwise}
 use mathlib.Core.Bool.{false≢true, and-eq-true_iff}
 use borrow.Author.Tests.{lt-leb}
 use Rattle.replay.specs.declared.verdict.Verdict.{Verdict}
@@ -13,7 +14,7 @@ pub equal-self : (l : List ℕ) → equal l l ≡ true
 equal-self [] = refl
 equal-self (x ∷ l) = rw (eq-eqb x x refl) (equal-self l)
 
-equal-true : (k l : List ℕ) → equal k l ≡ true → k ≡ l
+pub equal-true : (k l : List ℕ) → equal k l ≡ true → k ≡ l
 equal-true [] [] e = refl
 equal-true [] (y ∷ l) e = absurd (false≢true e)
 equal-true (x ∷ k) [] e = absurd (false≢true e)
@@ -21,15 +22,12 @@ equal-true (x ∷ k) (y ∷ l) e =
     let both = (and-eq-true_iff (eqb x y) (equal k l)).0 e in
     rw (eqb-true x y both.0, equal-true k l both.1)
 
--- so a function that tells the same gives the same
-module _ (k l : List ℕ) where
-  told-false : (t : Bool) → equal k l ≡ t → (k ≡ l → false ≡ true) → false ≡ t
-  told-false true e g = g (equal-true k l e)
-  told-false false e g = refl
-
-  pub equal-told : (r : Bool) → (r ≡ true → k ≡ l) → (k ≡ l → r ≡ true) → r ≡ equal k l
-  equal-told true f g = sym (rw (f refl) (equal-self l))
-  equal-told false f g = told-false (equal k l) refl g
+-- so does `==` of slices
+pub equal_pointwise : (k l : List ℕ) → pointwise eqb k l ≡ equal k l
+equal_pointwise [] [] = refl
+equal_pointwise [] (y ∷ l) = refl
+equal_pointwise (x ∷ k) [] = refl
+equal_pointwise (x ∷ k) (y ∷ l) = rw (equal_pointwise k l)
 
 -- the verdict on a record, from what decoding, answering and encoding give
 module _ (letter : ℕ) (text bytes own : List ℕ) (known : Bool) (after : List ℕ)

@@ -1,6 +1,5 @@
 -- Bytes as hexadecimal digits, two to a byte, the high one first: the text of the recorded answers.
-use Rattle.std.specs.Prelude.{ℕ, ◌+◌, ◌-◌, ◌*◌, ◌/◌, ◌%◌, cond, ◌&&◌, List, [], ◌∷◌, nat_le}
-use Rattle.io.specs.Digits.{hex_digit_ascii}
+use Rattle.std.specs.Prelude.{ℕ, ◌+◌, ◌-◌, ◌*◌, ◌/◌, ◌%◌, cond, ◌&&◌, List, [], ◌∷◌, nat_le, nat_lt}
 
 -- what a character stands for: `0` to `9`, `a` to `f`; any other counts as 0
 abbrev pub value_of : ℕ → ℕ
@@ -14,6 +13,10 @@ unfoldable pub from_hex : List ℕ → List ℕ
 from_hex [] = []
 from_hex (h ∷ []) = []
 from_hex (h ∷ l ∷ rest) = pair_of h l ∷ from_hex rest
+
+-- the digit that stands for a number below 16, in lower case
+abbrev pub hex_digit_ascii : ℕ → ℕ
+hex_digit_ascii d = cond (nat_lt d 10) (48 + d) (87 + d)
 
 -- the text of bytes
 unfoldable pub to_hex : List ℕ → List ℕ

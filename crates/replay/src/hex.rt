@@ -1,7 +1,6 @@
 // Bytes as hexadecimal digits in lower case, two to a byte, the high one first.
 ghost use Rattle.std.specs.Prelude.{◌≡◌, ◌*◌, ◌<◌, length};
-ghost use Rattle.io.specs.Digits.{hex_digit_ascii};
-ghost use Rattle.replay.specs.Hex.{value_of, pair_of, from_hex, to_hex};
+ghost use Rattle.replay.specs.Hex.{hex_digit_ascii, value_of, pair_of, from_hex, to_hex};
 
 // What a digit stands for. Any other character counts as 0: written out again, it shows as another.
 fn value(c: u8) -> u8

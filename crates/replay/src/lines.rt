@@ -1,18 +1,20 @@
 // The lines of a file's bytes: each is judged and counted, and the first that differ are printed.
-ghost use Rattle.std.specs.Prelude.{◌≡◌};
+ghost use Rattle.std.specs.Prelude.{◌≡◌, ◌≤◌, ◌==◌, IfOk, length};
+ghost use Rattle.std.specs.List.{position_or_len};
 ghost use Rattle.replay.specs.Verdict.{line_counted};
 ghost use Rattle.replay.specs.Lines.{tally_of};
 
 use crate::verdict;
 use crate::verdict::{Tally, Verdict};
-use libc::STDOUT_FILENO;
+use std::io;
+use std::io::Write;
 
 // How many lines are printed, at most.
 const MOST_PRINTED: u64 = 10;
 
-// All lines, the last one also where no line end follows it.
-pub fn judge_all(all: &[u8]) -> Tally
-    ensures { result ≡ tally_of all.now }
+// All lines, the last one also where no line end follows it. It fails only where a line is printed.
+pub fn judge_all<W: Write>(out: &mut W, all: &[u8]) -> io::Result<Tally>
+    ensures { IfOk result (λ tally. tally ≡ tally_of all.now) }
 {
     let mut tally = Tally {
         lines: 0,
@@ -21,58 +23,74 @@ pub fn judge_all(all: &[u8]) -> Tally
     };
     let mut start = 0;
     while start < all.len() {
-        let stop = bytes::scan::find(all, start, all.len(), b'\n');
-        tally = judge_one(&all[start..stop], tally);
+        let stop = start + line_size(&all[start..]);
+        tally = judge_one(out, &all[start..stop], tally)?;
         start = stop + 1;
     }
-    tally
+    Ok(tally)
+}
+
+// How many bytes stand before the first line end, or all.
+fn line_size(bytes: &[u8]) -> usize
+    ensures value { result ≡ position_or_len (λ b. b == 10) bytes.now }
+    ensures upper_bound { result ≤ length bytes.now }
+{
+    bytes
+        .iter()
+        .position(|b| *b == b'\n')
+        .unwrap_or(bytes.len())
 }
 
 // One line more, printed if it is among the first that differ.
-fn judge_one(line: &[u8], tally: Tally) -> Tally
-    ensures { result ≡ line_counted tally line.now }
+fn judge_one<W: Write>(out: &mut W, line: &[u8], tally: Tally) -> io::Result<Tally>
+    ensures { IfOk result (λ counted. counted ≡ line_counted tally line.now) }
 {
-    let mut own = io::buffer();
+    let mut own = [0; 4096];
     let found = verdict::judge_line(line, &mut own);
     if tally.differ < MOST_PRINTED {
         let number = std::num::wrapping_add_u64(tally.lines, 1);
-        report(number, line, &own, found);
+        report(out, number, line, &own, found)?;
     }
-    tally.counted(found).attributed(verdict::is_amended(line))
+    Ok(tally.counted(found).attributed(verdict::is_amended(line)))
 }
 
 // Where a line differs: its number, the line, and the line as the proved code has it.
-fn report(number: u64, line: &[u8], own: &[u8], verdict: Verdict) {
+fn report<W: Write>(
+    out: &mut W,
+    number: u64,
+    line: &[u8],
+    own: &[u8],
+    verdict: Verdict,
+) -> io::Result<()> {
     match verdict {
-        Verdict::Same => {}
+        Verdict::Same => Ok(()),
         Verdict::Differs => {
-            print_line(number, line);
-            print_own(line, own);
+            print_line(out, number, line)?;
+            print_own(out, line, own)
         }
         Verdict::Unreadable => {
-            print_line(number, line);
-            io::write_all(STDOUT_FILENO, b"cannot be read\n");
+            print_line(out, number, line)?;
+            out.write_all(b"cannot be read\n")
         }
     }
 }
 
-fn print_line(number: u64, line: &[u8]) {
-    io::write_all(STDOUT_FILENO, b"line ");
-    io::print_decimal(STDOUT_FILENO, number);
-    io::write_all(STDOUT_FILENO, b"\n");
-    io::write_all(STDOUT_FILENO, line);
-    io::write_all(STDOUT_FILENO, b"\n");
+fn print_line<W: Write>(out: &mut W, number: u64, line: &[u8]) -> io::Result<()> {
+    writeln!(out, "line {number}")?;
+    out.write_all(line)?;
+    out.write_all(b"\n")
 }
 
 // The line's letter and the proved code's digits, which stand at the start of `own`.
-fn print_own(line: &[u8], own: &[u8]) {
+fn print_own<W: Write>(out: &mut W, line: &[u8], own: &[u8]) -> io::Result<()> {
     if line.len() == 0 {
-        return;
+        return Ok(());
     }
     let digits = line.len() - 1;
     if digits <= own.len() {
-        io::write_all(STDOUT_FILENO, &line[..1]);
-        io::write_all(STDOUT_FILENO, &own[..digits]);
-        io::write_all(STDOUT_FILENO, b"\n");
+        out.write_all(&line[..1])?;
+        out.write_all(&own[..digits])?;
+        out.write_all(b"\n")?;
     }
+    Ok(())
 }

@@ -13,32 +13,25 @@ mod hex;
 mod lines;
 mod verdict;
 
-ghost use Rattle.std.specs.Prelude.{◌≡◌, length};
+ghost use Rattle.std.specs.Prelude.{◌≡◌, ◌≤◌, IfOk, length};
 
-use libc::STDOUT_FILENO;
+use std::io::{Read, Write};
+use std::{fs, io};
 use verdict::Tally;
 
 // Bytes that a file has to stay below: one that fills the room may go on behind it.
 const ROOM: usize = 1048576;
 
-fn main() {
-    let path = b"answers";
-    let file = os::open_read(path);
-    if file < 0 {
-        os::fail(path);
-        return;
-    }
+fn main(rt: HostRuntime) -> io::Result<()> {
+    let mut file = fs::open(&rt, "answers")?;
     let mut data = room();
-    let count = io::read_full(file, &mut data);
-    libc::close(file);
+    let count = read_full(&mut file, &mut data)?;
+    let mut out = io::writer(&rt);
     if count == ROOM {
-        io::write_all(
-            STDOUT_FILENO,
-            b"answers is too long: there is room for 1048575 bytes\n",
-        );
-        return;
+        return out.write_all(b"answers is too long: there is room for 1048575 bytes\n");
     }
-    print(lines::judge_all(&data[..count]));
+    let tally = lines::judge_all(&mut out, &data[..count])?;
+    print(&mut out, tally)
 }
 
 // Zeros. The `ensures` gives the length alone, which lending the array as a slice needs.
@@ -48,11 +41,27 @@ fn room() -> [u8; ROOM]
     [0; ROOM]
 }
 
-fn print(tally: Tally) {
-    io::print_decimal(STDOUT_FILENO, tally.lines);
-    io::write_all(STDOUT_FILENO, b" answers, ");
-    io::print_decimal(STDOUT_FILENO, tally.amended);
-    io::write_all(STDOUT_FILENO, b" of them by the amended Rust, ");
-    io::print_decimal(STDOUT_FILENO, tally.differ);
-    io::write_all(STDOUT_FILENO, b" differ\n");
+// Reads until the room is full or the file ends: how many bytes, which stand at its start.
+fn read_full<R: Read>(file: &mut R, room: &mut [u8]) -> io::Result<usize>
+    ensures { IfOk result (λ count. count ≤ length room.new) }
+{
+    let mut done = 0;
+    while done < room.len() {
+        let count = file.read(&mut room[done..])?;
+        if count == 0 {
+            break;
+        }
+        done += count;
+    }
+    Ok(done)
+}
+
+fn print<W: Write>(out: &mut W, tally: Tally) -> io::Result<()> {
+    let lines = tally.lines;
+    let amended = tally.amended;
+    let differ = tally.differ;
+    writeln!(
+        out,
+        "{lines} answers, {amended} of them by the amended Rust, {differ} differ"
+    )
 }

@@ -1,6 +1,6 @@
 // One line of the recorded answers against what the proved code answers.
 ghost use Rattle.std.specs.Prelude.{◌≡◌, ◌*◌, ◌≤◌, length};
-ghost use Rattle.replay.specs.Verdict.{own_of, verdict_of, line_verdict_of, own_in, counted_of, amended_line, attributed_of};
+ghost use Rattle.replay.specs.Verdict.{equal, own_of, verdict_of, line_verdict_of, own_in, counted_of, amended_line, attributed_of};
 
 #[derive(Clone, Copy)]
 pub enum Verdict {
@@ -22,11 +22,18 @@ fn judge(letter: u8, text: &[u8], bytes: &mut [u8], own: &mut [u8]) -> Verdict
     if !known {
         return Verdict::Unreadable;
     }
-    if check::same(text, own) {
+    if same(text, own) {
         Verdict::Same
     } else {
         Verdict::Differs
     }
+}
+
+#[tactic(auto, using(crate::proofs::Verdicts::equal_pointwise))]
+fn same(text: &[u8], own: &[u8]) -> bool
+    ensures { result ≡ equal text.now own.now }
+{
+    text == own
 }
 
 // The longest line that is read.
@@ -46,7 +53,7 @@ pub fn judge_line(line: &[u8], own: &mut [u8]) -> Verdict
     }
     let digits = line.len() - 1;
     let half = digits / 2;
-    let mut bytes = io::buffer();
+    let mut bytes = [0; 4096];
     judge(line[0], &line[1..], &mut bytes[..half], &mut own[..digits])
 }
 
