@@ -1,7 +1,6 @@
 -- `positions::spaced` meets its contract. The invariant: the positions from `i` on, behind `last`, decide the answer. Assumes nothing.
-use Prim.Native.Nat.{◌+◌, ◌<◌}
-use mathlib.Core.Path.{◌≡◌, sym, ap, ◌∙◌}
-use mathlib.Core.Bool.{false}
+use Prim.Native.Nat.{◌+◌}
+use mathlib.Core.Path.{sym, ap, ◌∙◌}
 use native.Mathlib.Omega.{arith}
 use borrow.Author.Tests.{lt-leb}
 use Rattle.positions.specs.Positions.{positions_of, spaced_of}
@@ -28,15 +27,15 @@ get-x-requires c =
 
 pub returns-then-x-last : goal.returns-then-x-last
 returns-then-x-last c =
-    (let close : c.get-x.result < c.loop-i.last + 4 = (omega arith) in let the_too_close : let a = c.args in false ≡ spaced_of a.offset a.hi (positions_of a.n a.list.now) = let l = c.loop-i in
+    let l = c.loop-i in
     let a = c.args in
-    sym (space-less a.n a.list.now l.i c.get-x.result c.loop-i-test.true c.get-x.ensures l.last a.offset a.hi close) ∙ l.invariant.2 in the_too_close)
+    sym (space-less a.n a.list.now l.i c.get-x.result c.loop-i-test.true c.get-x.ensures l.last a.offset a.hi (omega arith)) ∙ l.invariant.2
 
 pub returns-then-x-last-lt4 : goal.returns-then-x-last-lt4
 returns-then-x-last-lt4 c =
-    (let close : c.get-x.result < c.loop-i.last + 4 = (omega arith) in let the_too_close : let a = c.args in false ≡ spaced_of a.offset a.hi (positions_of a.n a.list.now) = let l = c.loop-i in
+    let l = c.loop-i in
     let a = c.args in
-    sym (space-less a.n a.list.now l.i c.get-x.result c.loop-i-test.true c.get-x.ensures l.last a.offset a.hi close) ∙ l.invariant.2 in the_too_close)
+    sym (space-less a.n a.list.now l.i c.get-x.result c.loop-i-test.true c.get-x.ensures l.last a.offset a.hi (omega arith)) ∙ l.invariant.2
 
 pub overflow_add-i : goal.overflow_add-i
 overflow_add-i c =
