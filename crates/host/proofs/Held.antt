@@ -1,12 +1,11 @@
 -- A host end that the code holds has a queue for each stream: what the type `[Queue; STREAMS]` says of a value. Assumes nothing.
-use mathlib.Core.Path.{◌≡◌, sym, ◌∙◌}
+use mathlib.Core.Path.{◌≡◌}
 use mathlib.Core.List.{List}
-use lib.ListN.{length, length-map}
+use lib.ListN.{length}
 use mir.Val.{Val}
 use denote.Laws.{Is}
 use Rattle.host.specs.declared.Host.{Host}
 use Rattle.stream.specs.Box.{streams}
-use Rattle.queue.specs.contracts.Queue as queue
 use Rattle.host.specs.contracts.Host as host
 
 pub queues-held : (h : Host) (vs : List Val) → Is host.the_row h vs → length h.queues ≡ streams

@@ -1,5 +1,5 @@
 -- Pending positions are 4 bytes or more apart, since a descriptor has 4 bytes or more, and stay so by each piece and each position update. Nothing is assumed of the counts modulo 4. Assumes nothing.
-use Prim.Native.Nat.{ℕ, zero, suc, ◌+◌, ◌-◌, ◌≤◌}
+use Prim.Native.Nat.{ℕ, zero, suc, ◌+◌, ◌≤◌}
 use mathlib.Core.Path.{◌≡◌, refl}
 use mathlib.Core.Bool.{true}
 use mathlib.Core.List.{List, [], ◌∷◌, ◌++◌}

@@ -1,6 +1,5 @@
 -- `following` meets its contract: each answer, by its test. Assumes nothing.
 use borrow.Author.Tests.{eq-eqb, ne_eqb}
-use borrow.Author.Rules.{rules}
 use Rattle.pieces.proofs.following.Goals as goal
 
 pub returns-then-descriptor-lvi : goal.returns-then-descriptor-lvi

@@ -1,7 +1,6 @@
 -- `move_bytes` meets its contract: one copy, out of memory or into it; the other list stays. Assumes nothing.
 use mathlib.Core.Path.{refl}
 use Rattle.pieces.proofs.Laws.{captured, played}
-use borrow.Author.Rules.{rules}
 use Rattle.pieces.proofs.move_bytes.Goals as goal
 
 pub returns-then-capture : goal.returns-then-capture

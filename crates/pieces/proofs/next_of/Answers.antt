@@ -3,7 +3,6 @@ use mathlib.Core.Path.{subst}
 use native.Mathlib.Omega.{arith}
 use Rattle.plan.specs.declared.End.{End}
 use Rattle.pieces.specs.Pieces.{EndOk}
-use borrow.Author.Rules.{rules}
 use Rattle.pieces.proofs.next_of.Goals as goal
 
 pub overflow_add-result-in-Flagged : goal.overflow_add-result-in-Flagged

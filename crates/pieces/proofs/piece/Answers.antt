@@ -8,7 +8,6 @@ use Rattle.plan.specs.declared.Plan.{Plan}
 use Rattle.plan.specs.Plans.{descriptor_at}
 use Rattle.pieces.proofs.Plans.{MoveOk, PlanOk, plan-ok, length-bound}
 use Rattle.pieces.proofs.Laws.{piece-failed, piece-full, piece-moved}
-use borrow.Author.Rules.{rules}
 use Rattle.pieces.proofs.piece.Goals as goal
 
 pub move_bytes-requires : goal.move_bytes-requires

@@ -1,12 +1,11 @@
 -- `pieces` meets its contract. The invariant: the pieces from here leave what all of them leave, with fuel enough for what is left of the
 -- period. The measure is what is left. Assumes nothing.
-use Prim.Native.Nat.{ℕ, ◌-◌, ◌<◌, ◌≤◌}
+use Prim.Native.Nat.{◌<◌, ◌≤◌}
 use mathlib.Core.Path.{◌≡◌, refl, sym, ◌∙◌, subst}
 use mathlib.Core.Bool.{Bool, true}
 use native.Mathlib.Omega.{arith}
 use borrow.Author.Tests.{not-true, not-false}
-use lib.ListN.{length}
-use Rattle.pieces.specs.Pieces.{State, Out, state_of, step_out, pieces_of}
+use Rattle.pieces.specs.Pieces.{Out, state_of, step_out}
 use Rattle.pieces.proofs.Turns.{Further, piece-further, pieces_more, pieces-stop, pieces_end}
 use Rattle.pieces.proofs.pieces.Goals as goal
 

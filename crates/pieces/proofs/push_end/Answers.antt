@@ -3,7 +3,6 @@ use mathlib.Core.Path.{subst}
 use native.Mathlib.Omega.{arith}
 use Rattle.plan.specs.declared.End.{End}
 use Rattle.pieces.specs.Pieces.{EndOk}
-use borrow.Author.Rules.{rules}
 use Rattle.pieces.proofs.push_end.Goals as goal
 
 pub push-requires : goal.push-requires

@@ -5,7 +5,6 @@ use Rattle.memory.specs.declared.Fetched.TheVariants.{Outside, Entry}
 use Rattle.memory.proofs.Laws.{descriptor-outside}
 use Rattle.plan.specs.Plans.{descriptor_at}
 use Rattle.plan.proofs.Laws.{plan-past, plan-fetched}
-use borrow.Author.Rules.{rules}
 use Rattle.plan.proofs.plan_at.Goals as goal
 
 pub returns-then-s-g : goal.returns-then-s-g

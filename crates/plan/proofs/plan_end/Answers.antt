@@ -4,7 +4,6 @@ use native.Mathlib.Omega.{arith}
 use borrow.Author.Tests.{lt-ltb, le-ltb, eq-eqb, ne_eqb}
 use Rattle.stream.specs.Streams.{places}
 use Rattle.plan.specs.Plans.{end_of}
-use borrow.Author.Rules.{rules}
 use Rattle.plan.proofs.plan_end.Goals as goal
 
 pub returns-then-s-n : goal.returns-then-s-n

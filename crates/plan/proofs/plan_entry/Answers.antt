@@ -4,7 +4,6 @@ use mathlib.Core.Path.{ap, ◌∙◌}
 use native.Mathlib.Omega.{arith}
 use borrow.Author.Tests.{lt-ltb, le-ltb, eq-eqb, ne_eqb}
 use Rattle.plan.specs.Plans.{placed_of, entry_of}
-use borrow.Author.Rules.{rules}
 use Rattle.plan.proofs.plan_entry.Goals as goal
 
 pub returns-then-length-eq0 : goal.returns-then-length-eq0

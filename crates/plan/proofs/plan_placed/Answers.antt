@@ -4,7 +4,6 @@ use native.Mathlib.Omega.{arith}
 use borrow.Author.Tests.{le-leb, lt-leb}
 use Rattle.stream.specs.Streams.{max_count}
 use Rattle.plan.specs.Plans.{placed_of}
-use borrow.Author.Rules.{rules}
 use Rattle.plan.proofs.plan_placed.Goals as goal
 
 pub returns-then-end-size : goal.returns-then-end-size

@@ -1,7 +1,6 @@
 -- `size_of` meets its contract: both differences are of a smaller number. Assumes nothing.
 use native.Mathlib.Omega.{arith}
 use native.Mathlib.Nat.{mod-lt}
-use borrow.Author.Rules.{rules}
 use Rattle.plan.proofs.size_of.Goals as goal
 
 pub overflow_sub-turn : goal.overflow_sub-turn

@@ -1,6 +1,5 @@
 -- `Host::check` meets its contract: the tests decide. Assumes nothing.
 use Prim.Native.Nat.{◌*◌}
-use borrow.Author.Rules.{rules}
 use borrow.Author.Tests.{lt-ltb, le-ltb}
 use Rattle.queue.specs.Queues.{capacity}
 use Rattle.stream.specs.Box.{streams}

@@ -1,6 +1,5 @@
 -- `Host::close` meets its contract: the record is the definition's. Assumes nothing.
 use mathlib.Core.Path.{refl}
-use borrow.Author.Rules.{rules}
 use Rattle.host.specs.Hosts.{close_of}
 use Rattle.host.proofs.Host.close.Goals as goal
 

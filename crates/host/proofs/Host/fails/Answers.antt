@@ -1,5 +1,4 @@
 -- `Host::fails` meets its contract: the direction decides. Assumes nothing.
-use borrow.Author.Rules.{rules}
 use Rattle.host.proofs.Host.fails.Goals as goal
 
 pub returns-then-is_capture : goal.returns-then-is_capture

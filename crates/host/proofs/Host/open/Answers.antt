@@ -1,5 +1,4 @@
 -- `Host::open` meets its contract: the tests decide. Assumes nothing.
-use borrow.Author.Rules.{rules}
 use Rattle.host.specs.Hosts.{open_of}
 use Rattle.host.proofs.Host.open.Goals as goal
 

@@ -1,11 +1,9 @@
 -- `Host::valid` meets its contract. The invariant: the queues from `i` on decide. The measure is how many are left. Assumes nothing.
-use Prim.Native.Nat.{◌-◌, ◌≤◌}
 use mathlib.Core.Path.{◌≡◌, refl, sym, ◌∙◌}
 use native.Mathlib.Omega.{arith}
-use borrow.Author.Tests.{not-true, not-false}
-use lib.ListN.{length, drop}
+use lib.ListN.{length}
 use Rattle.queue.specs.Queues.{closed, valid_queue}
-use Rattle.host.specs.Hosts.{every, valid_of}
+use Rattle.host.specs.Hosts.{valid_of}
 use Rattle.host.proofs.Every.{every_more, every-stop, every-end}
 use Rattle.host.proofs.Held.{queues-held}
 use Rattle.host.proofs.Host.valid.Goals as goal

@@ -2,7 +2,6 @@
 use Prim.Native.Nat.{ℕ, max}
 use mathlib.Core.Path.{ap, ◌∙◌}
 use Rattle.stream.proofs.Laws.{update-left}
-use borrow.Author.Rules.{rules}
 use Rattle.stream.proofs.Stream.update.Goals as goal
 
 pub returns : goal.returns

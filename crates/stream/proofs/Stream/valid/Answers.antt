@@ -2,10 +2,9 @@
 use mathlib.Core.Path.{◌≡◌, sym, ◌∙◌}
 use mathlib.Core.Bool.{true}
 use native.Mathlib.Omega.{arith}
-use borrow.Author.Tests.{le-leb, lt-leb, not-true, not-false}
+use borrow.Author.Tests.{le-leb, lt-leb}
 use Rattle.positions.specs.Positions.{positions_of, rises_of}
 use Rattle.stream.specs.Streams.{places, valid_of}
-use borrow.Author.Rules.{rules}
 use Rattle.stream.proofs.Stream.valid.Goals as goal
 
 pub returns-then-pending-gt-PLACES : goal.returns-then-pending-gt-PLACES
