@@ -55,7 +55,7 @@ def apply(paths, crate, folder):
 
 def copy(folder):
     """The crates alone: a check there begins with what a check of the same crate here kept (`rt help`)."""
-    shutil.copytree('crates', os.path.join(folder, 'crates'), ignore=shutil.ignore_patterns('out', 'must-fail'))
+    shutil.copytree('crates', os.path.join(folder, 'crates'), ignore=shutil.ignore_patterns('out', 'must-fail', 'wrong'))
     shutil.copy('crates.txt', folder)
 
 
