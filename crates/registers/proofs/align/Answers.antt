@@ -1,9 +1,7 @@
 -- `align` meets its contract. The invariant: the streams from `index` on leave what all of them leave of the file as it was where the loop began. Assumes nothing.
-use Prim.Native.Nat.{ℕ, ◌+◌, ◌-◌}
-use mathlib.Core.Path.{◌≡◌, refl, sym, ◌∙◌}
+use mathlib.Core.Path.{refl, sym, ◌∙◌}
 use native.Mathlib.Omega.{arith}
-use borrow.Author.Rules.{rules}
-use Rattle.word.specs.Each.{each_of, always}
+use Rattle.word.specs.Each.{always}
 use Rattle.word.proofs.Each.{each_step, each-end}
 use Rattle.stream.specs.Box.{streams}
 use Rattle.registers.specs.Writes.{align_stream_of, align_of}

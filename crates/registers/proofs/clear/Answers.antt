@@ -1,9 +1,9 @@
 -- `clear` meets its contract. The invariant: `i` zeros are put. Assumes nothing.
-use Prim.Native.Nat.{ℕ, ◌+◌, ◌-◌, ◌≤◌}
+use Prim.Native.Nat.{ℕ, ◌+◌}
 use mathlib.Core.Path.{◌≡◌, refl, sym, ap, ◌∙◌}
 use mathlib.Core.List.{List}
 use native.Mathlib.Omega.{arith}
-use lib.ListN.{length, set, replicate, length-set}
+use lib.ListN.{set, replicate, length-set}
 use Rattle.word.specs.Place.{put_at}
 use Rattle.word.proofs.Put.{put_same}
 use Rattle.registers.proofs.Zeros.{zeros-turn}

@@ -1,6 +1,5 @@
 -- `dma_enabled_in` meets its contract: the tests are the definition. Assumes nothing.
 use mathlib.Core.Path.{refl}
-use borrow.Author.Rules.{rules}
 use Rattle.registers.specs.Places.{dma_of}
 use Rattle.registers.proofs.dma_enabled_in.Goals as goal
 

@@ -1,5 +1,4 @@
 -- `is_alias` meets its contract: the tests are the definition, once the difference is that of naturals. Assumes nothing.
-use borrow.Author.Rules.{rules}
 use Rattle.registers.specs.Reads.{aliased}
 use Rattle.registers.proofs.is_alias.Goals as goal
 

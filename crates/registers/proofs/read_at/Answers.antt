@@ -1,7 +1,6 @@
 -- `read_at` meets its contract: an address past 64 bits is past all aliases. Assumes nothing.
 use mathlib.Core.Path.{sym}
 use native.Mathlib.Omega.{arith}
-use borrow.Author.Rules.{rules}
 use Rattle.registers.proofs.Reading.{read-far}
 use Rattle.registers.proofs.read_at.Goals as goal
 

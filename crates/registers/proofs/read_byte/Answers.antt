@@ -3,7 +3,6 @@ use Prim.Native.Nat.{◌-◌, ◌≤◌, ◌<◌}
 use mathlib.Core.Path.{sym, ◌∙◌}
 use native.Mathlib.Omega.{arith}
 use borrow.Author.Tests.{lt-ltb, le-ltb}
-use borrow.Author.Rules.{rules}
 use Rattle.registers.specs.Places.{size}
 use Rattle.registers.specs.Reads.{read_byte_of}
 use Rattle.registers.proofs.Reading.{alias-near}

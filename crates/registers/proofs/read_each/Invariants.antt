@@ -1,12 +1,8 @@
 -- `read_each` meets its contract. The invariant: `i` bytes are read. Assumes nothing.
 use Prim.Native.Nat.{◌-◌, ◌≤◌}
-use mathlib.Core.Path.{◌≡◌, refl, sym, ap, ◌∙◌}
-use native.Mathlib.Omega.{arith}
-use borrow.Author.Rules.{rules}
-use lib.ListN.{length, take, length-set}
-use lib.Seq.{take_all}
+use mathlib.Core.Path.{◌≡◌}
+use lib.ListN.{length, take}
 use Rattle.registers.specs.Reads.{read_of}
-use Rattle.registers.proofs.Reading.{read-turn}
 use Rattle.registers.proofs.read_each.Given as goal
 
 abbrev pub invariant-loop-i : goal.invariant-loop-i

@@ -1,12 +1,8 @@
 -- `reset` meets its contract. The invariant: the streams from `index` on leave what all of them leave of the file as it was where the loop began. Assumes nothing.
 use Prim.Native.Nat.{ℕ, ◌+◌, ◌-◌}
-use mathlib.Core.Path.{◌≡◌, refl, sym, ◌∙◌}
-use native.Mathlib.Omega.{arith}
-use borrow.Author.Rules.{rules}
+use mathlib.Core.Path.{◌≡◌}
 use Rattle.word.specs.Each.{each_of, always}
-use Rattle.word.proofs.Each.{each_step, each-end}
-use Rattle.stream.specs.Box.{streams}
-use Rattle.registers.specs.Reset.{reset_stream_of, reset_of}
+use Rattle.registers.specs.Reset.{reset_stream_of}
 use Rattle.registers.proofs.reset.Given as goal
 
 abbrev pub invariant-loop-index : goal.invariant-loop-index

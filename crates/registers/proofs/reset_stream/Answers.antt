@@ -1,5 +1,4 @@
 -- `reset_stream` meets its contract: both calls are the definition. Assumes nothing.
-use borrow.Author.Rules.{rules}
 use Rattle.registers.specs.Reset.{reset_stream_of}
 use Rattle.registers.proofs.reset_stream.Goals as goal
 

@@ -1,6 +1,5 @@
 -- `write_byte` meets its contract: each way is a case of the definition. Assumes nothing.
 use mathlib.Core.Path.{sym, ◌∙◌}
-use borrow.Author.Rules.{rules}
 use Rattle.registers.specs.Writes.{write_byte_of}
 use Rattle.registers.proofs.Tests.{within-true}
 use Rattle.registers.proofs.write_byte.Goals as goal

@@ -1,6 +1,5 @@
 -- `write_control_byte` meets its contract: each way is a case of the definition. Assumes nothing.
 use borrow.Author.Tests.{eq-eqb, ne_eqb}
-use borrow.Author.Rules.{rules}
 use Rattle.registers.specs.Writes.{control_byte_of}
 use Rattle.registers.proofs.write_control_byte.Goals as goal
 

@@ -1,7 +1,6 @@
 -- `write_stream_byte` meets its contract: each way is a case of the definition. Assumes nothing.
 use mathlib.Core.Path.{sym, ◌∙◌}
 use borrow.Author.Tests.{ne_eqb}
-use borrow.Author.Rules.{rules}
 use Rattle.registers.specs.Writes.{stream_byte_of}
 use Rattle.registers.proofs.write_stream_byte.Goals as goal
 

@@ -1,6 +1,4 @@
 -- `captured` meets its contract: an unconnected stream takes nothing, another takes and amplifies. Assumes nothing.
-use borrow.Author.Rules.{rules}
-use borrow.Author.Tests.{not-true, not-false}
 use Rattle.queue.specs.Queues.{moved_of, taken_of}
 use Rattle.transfer.proofs.Laws.{captured-none, captured-taken}
 use Rattle.transfer.proofs.captured.Goals as goal

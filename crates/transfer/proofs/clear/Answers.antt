@@ -1,12 +1,11 @@
 -- `clear` meets its contract. The invariant: the first i bytes are 0 and the others as they were. The measure is what is left. Assumes nothing.
-use Prim.Native.Nat.{ℕ, ◌-◌, ◌≤◌}
-use mathlib.Core.Path.{◌≡◌, refl, ap, ◌∙◌}
-use mathlib.Core.List.{List, ◌++◌}
+use Prim.Native.Nat.{ℕ}
+use mathlib.Core.Path.{refl, ap, ◌∙◌}
+use mathlib.Core.List.{List}
 use native.Mathlib.Omega.{arith}
 use borrow.Author.Fill.{fill_more}
-use lib.ListN.{length, set, drop, length-set}
+use lib.ListN.{set, length-set}
 use Rattle.word.proofs.Lists.{all-filled}
-use Rattle.transfer.specs.Transfers.{silence}
 use Rattle.transfer.proofs.clear.Goals as goal
 
 pub loop-i-init : goal.loop-i-init

@@ -1,11 +1,8 @@
 -- `clear` meets its contract. The invariant: the first i bytes are 0 and the others as they were. The measure is what is left. Assumes nothing.
-use Prim.Native.Nat.{ℕ, ◌-◌, ◌≤◌}
-use mathlib.Core.Path.{◌≡◌, refl, ap, ◌∙◌}
-use mathlib.Core.List.{List, ◌++◌}
-use native.Mathlib.Omega.{arith}
-use borrow.Author.Fill.{fill_more}
-use lib.ListN.{length, set, drop, length-set}
-use Rattle.word.proofs.Lists.{all-filled}
+use Prim.Native.Nat.{◌-◌, ◌≤◌}
+use mathlib.Core.Path.{◌≡◌}
+use mathlib.Core.List.{◌++◌}
+use lib.ListN.{length, drop}
 use Rattle.transfer.specs.Transfers.{silence}
 use Rattle.transfer.proofs.clear.Given as goal
 

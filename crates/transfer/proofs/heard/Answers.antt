@@ -1,7 +1,6 @@
 -- `heard` meets its contract: one call for each case. Assumes nothing.
 use mathlib.Core.Path.{◌≡◌, sym, ◌∙◌, subst}
 use mathlib.Core.Bool.{Bool}
-use borrow.Author.Rules.{rules}
 use lib.ListN.{length, take}
 use Rattle.gain.specs.Gain.{gain_of, two_steps_of}
 use Rattle.gain.proofs.Passes.{one-pass-is-two-steps}

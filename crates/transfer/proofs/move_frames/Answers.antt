@@ -2,7 +2,6 @@
 use mathlib.Core.Path.{ap, subst, ◌∙◌}
 use mathlib.Core.Bool.{◌&&◌}
 use native.Mathlib.Omega.{arith}
-use borrow.Author.Rules.{rules}
 use lib.ListN.{length}
 use Rattle.pieces.specs.Pieces.{step_out}
 use Rattle.queue.specs.declared.Queue.{Queue}

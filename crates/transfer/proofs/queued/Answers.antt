@@ -1,8 +1,6 @@
 -- `queued` meets its contract: nothing, or as much of what is heard as fits, behind the rest. Assumes nothing.
 use Prim.Native.Nat.{◌+◌, ◌-◌}
 use native.Mathlib.Omega.{arith}
-use borrow.Author.Rules.{rules}
-use borrow.Author.Tests.{not-true, not-false}
 use lib.ListN.{length, drop, length-take}
 use Rattle.queue.proofs.Moves.{fitting, reserved-count, reserved-queue}
 use Rattle.transfer.proofs.Laws.{queued-none, queued-put}

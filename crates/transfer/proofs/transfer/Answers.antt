@@ -1,7 +1,5 @@
 -- `transfer` meets its contract: not ready, or frames moved over a period that is silent at first. Assumes nothing.
 use mathlib.Core.Path.{sym, ◌∙◌}
-use borrow.Author.Rules.{rules}
-use borrow.Author.Tests.{not-true, not-false}
 use Rattle.transfer.proofs.Laws.{silent-period, ready-cyclic, transfer-unready, transfer-ready}
 use Rattle.transfer.proofs.transfer.Goals as goal
 
