@@ -1,5 +1,4 @@
 -- `allowed` is the test that `immediate_allowed` says.
-use borrow.Author.Rules.{rules}
 use Rattle.immediate.proofs.allowed.Goals as goal
 
 pub returns : goal.returns

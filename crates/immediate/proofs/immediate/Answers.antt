@@ -1,7 +1,5 @@
 -- `immediate` leaves what `immediate_of` says: no command asked for, one that may not run, or one that ran. Assumes nothing.
 use mathlib.Core.Path.{sym, ap, ◌∙◌}
-use borrow.Author.Rules.{rules}
-use borrow.Author.Tests.{not-true, not-false}
 use Rattle.codec.specs.Codecs.{verb_of}
 use Rattle.immediate.proofs.Laws.{immediate-none, immediate-refused, immediate-done}
 use Rattle.immediate.proofs.immediate.Goals as goal

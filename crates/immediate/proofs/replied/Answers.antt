@@ -1,5 +1,4 @@
 -- `replied` leaves the registers that `replied_of` says, by the reply.
-use borrow.Author.Rules.{rules}
 use Rattle.immediate.proofs.replied.Goals as goal
 
 pub returns-in-Nothing : goal.returns-in-Nothing
