@@ -2,4 +2,5 @@
 pub mod Digests
 pub mod Noises
 pub mod Steps
+pub mod Read
 pub mod Verdicts

@@ -3,3 +3,4 @@ pub mod Noise
 pub mod Recorded
 pub mod Calls
 pub mod Verdict
+pub mod Printed

@@ -19,5 +19,8 @@ unfoldable pub count_all : Tally → List (List ℕ) → Tally
 count_all t [] = t
 count_all t (line ∷ lines) = count_all (line_counted t line) lines
 
+abbrev pub begun : Tally
+begun = record { lines = 0; amended = 0; differ = 0 }
+
 abbrev pub tally_of : List ℕ → Tally
-tally_of bytes = count_all (record { lines = 0; amended = 0; differ = 0 }) (lines_of bytes)
+tally_of bytes = count_all begun (lines_of bytes)

@@ -1,8 +1,10 @@
 // The lines of a file's bytes: each is judged and counted, and the first that differ are printed.
-ghost use Rattle.std.specs.Prelude.{◌≡◌, ◌≤◌, ◌==◌, IfOk, length};
+ghost use Rattle.std.specs.Prelude.{◌≡◌, ◌≤◌, ◌==◌, IfOk, OnOk, length};
+ghost use Rattle.std.specs.Io.KnownBytes.{Appends};
 ghost use Rattle.std.specs.List.{position_or_len};
 ghost use Rattle.replay.specs.Verdict.{line_counted};
 ghost use Rattle.replay.specs.Lines.{tally_of};
+ghost use Rattle.replay.specs.Printed.{line_text, own_text, report_of, line_reported, reported_of};
 
 use crate::verdict;
 use crate::verdict::{Tally, Verdict};
@@ -14,7 +16,8 @@ const MOST_PRINTED: u64 = 10;
 
 // All lines, the last one also where no line end follows it. It fails only where a line is printed.
 pub fn judge_all<W: Write>(out: &mut W, all: &[u8]) -> io::Result<Tally>
-    ensures { IfOk result (λ tally. tally ≡ tally_of all.now) }
+    ensures value { IfOk result (λ tally. tally ≡ tally_of all.now) }
+    ensures written { OnOk result (Appends (W.contents out.old) (W.contents out.new) (reported_of all.now)) }
 {
     let mut tally = Tally {
         lines: 0,
@@ -43,7 +46,8 @@ fn line_size(bytes: &[u8]) -> usize
 
 // One line more, printed if it is among the first that differ.
 fn judge_one<W: Write>(out: &mut W, line: &[u8], tally: Tally) -> io::Result<Tally>
-    ensures { IfOk result (λ counted. counted ≡ line_counted tally line.now) }
+    ensures value { IfOk result (λ counted. counted ≡ line_counted tally line.now) }
+    ensures written { OnOk result (Appends (W.contents out.old) (W.contents out.new) (line_reported tally line.now)) }
 {
     let mut own = [0; 4096];
     let found = verdict::judge_line(line, &mut own);
@@ -61,7 +65,9 @@ fn report<W: Write>(
     line: &[u8],
     own: &[u8],
     verdict: Verdict,
-) -> io::Result<()> {
+) -> io::Result<()>
+    ensures { OnOk result (Appends (W.contents out.old) (W.contents out.new) (report_of verdict number line.now own.now)) }
+{
     match verdict {
         Verdict::Same => Ok(()),
         Verdict::Differs => {
@@ -75,14 +81,20 @@ fn report<W: Write>(
     }
 }
 
-fn print_line<W: Write>(out: &mut W, number: u64, line: &[u8]) -> io::Result<()> {
+#[tactic(auto, unfolding(crate::specs::Printed::line_text))]
+fn print_line<W: Write>(out: &mut W, number: u64, line: &[u8]) -> io::Result<()>
+    ensures { OnOk result (Appends (W.contents out.old) (W.contents out.new) (line_text number line.now)) }
+{
     writeln!(out, "line {number}")?;
     out.write_all(line)?;
     out.write_all(b"\n")
 }
 
 // The line's letter and the proved code's digits, which stand at the start of `own`.
-fn print_own<W: Write>(out: &mut W, line: &[u8], own: &[u8]) -> io::Result<()> {
+#[tactic(auto, unfolding(crate::specs::Printed::own_text))]
+fn print_own<W: Write>(out: &mut W, line: &[u8], own: &[u8]) -> io::Result<()>
+    ensures { OnOk result (Appends (W.contents out.old) (W.contents out.new) (own_text line.now own.now)) }
+{
     if line.len() == 0 {
         return Ok(());
     }

@@ -4,8 +4,8 @@
 // last line that is printed says how many lines there were, how many of them the amended Rust answered, and how many the proved code answers
 // in another way; the first ten of those are printed, each with the proved code's own answer.
 //
-// No contract can say what a file holds. So what is stated is what any bytes give: verdict.rt has it for a line, lines.rt for all of them. Of
-// what reads the bytes and prints it is proved that it is safe and ends.
+// No contract can say what a file holds. So what is stated is what any bytes give: verdict.rt has it for a line, lines.rt for all of them, and `run`
+// for what is printed of the bytes that a reader gives.
 #![tactic(auto)]
 
 mod answers;
@@ -13,7 +13,9 @@ mod hex;
 mod lines;
 mod verdict;
 
-ghost use Rattle.std.specs.Prelude.{◌≡◌, ◌≤◌, IfOk, length};
+ghost use Rattle.std.specs.Prelude.{◌≡◌, ◌<◌, ◌≤◌, IfOk, OnOk, IfSome, length, take};
+ghost use Rattle.std.specs.Io.KnownBytes.{Appends, Consumes, IsAtEnd};
+ghost use Rattle.replay.specs.Printed.{summary_of, output_of};
 
 use std::io::{Read, Write};
 use std::{fs, io};
@@ -23,15 +25,20 @@ use verdict::Tally;
 const ROOM: usize = 1048576;
 
 fn main(rt: HostRuntime) -> io::Result<()> {
-    let mut file = fs::open(&rt, "answers")?;
+    run(&mut fs::open(&rt, "answers")?, &mut io::writer(&rt))
+}
+
+// What the program prints of a file's bytes.
+fn run<R: Read, W: Write>(file: &mut R, out: &mut W) -> io::Result<()>
+    ensures { OnOk result (IfSome (R.remaining file.old) (λ bytes. Appends (W.contents out.old) (W.contents out.new) (output_of bytes))) }
+{
     let mut data = room();
-    let count = read_full(&mut file, &mut data)?;
-    let mut out = io::writer(&rt);
+    let count = read_full(file, &mut data)?;
     if count == ROOM {
         return out.write_all(b"answers is too long: there is room for 1048575 bytes\n");
     }
-    let tally = lines::judge_all(&mut out, &data[..count])?;
-    print(&mut out, tally)
+    let tally = lines::judge_all(out, &data[..count])?;
+    print(out, tally)
 }
 
 // Zeros. The `ensures` gives the length alone, which lending the array as a slice needs.
@@ -43,20 +50,25 @@ fn room() -> [u8; ROOM]
 
 // Reads until the room is full or the file ends: how many bytes, which stand at its start.
 fn read_full<R: Read>(file: &mut R, room: &mut [u8]) -> io::Result<usize>
-    ensures { IfOk result (λ count. count ≤ length room.new) }
+    ensures upper_bound { IfOk result (λ count. count ≤ length room.new) }
+    ensures bytes { IfOk result (λ count. Consumes (R.remaining file.old) (R.remaining file.new) (take count room.new)) }
+    ensures ended { IfOk result (λ count. count < length room.new → IsAtEnd (R.remaining file.new)) }
 {
     let mut done = 0;
     while done < room.len() {
         let count = file.read(&mut room[done..])?;
         if count == 0 {
-            break;
+            return Ok(done);
         }
         done += count;
     }
     Ok(done)
 }
 
-fn print<W: Write>(out: &mut W, tally: Tally) -> io::Result<()> {
+#[tactic(auto, unfolding(crate::specs::Printed::summary_of))]
+fn print<W: Write>(out: &mut W, tally: Tally) -> io::Result<()>
+    ensures { OnOk result (Appends (W.contents out.old) (W.contents out.new) (summary_of tally)) }
+{
     let lines = tally.lines;
     let amended = tally.amended;
     let differ = tally.differ;
