@@ -13,7 +13,7 @@ use Rattle.clock.specs.declared.Clock.{Clock}
 use Rattle.clock.specs.Clock as clock
 use Rattle.host.specs.declared.Host.{Host}
 use Rattle.registers.specs.Places.{walclk, dma_of}
-use Rattle.pci.specs.declared.Msi.TheVariants.{None}
+use Rattle.std.specs.Prelude.{None}
 use Rattle.device.specs.declared.Hda.{Hda}
 use Rattle.device.specs.declared.Answer.{Answer}
 use Rattle.device.specs.Devices.{with_regs, with_clock}

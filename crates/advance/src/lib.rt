@@ -2,8 +2,7 @@
 // the Rust's `Hda::advance`), on the device where it stands in its record.
 #![tactic(auto)]
 
-ghost use Rattle.std.specs.Prelude.{◌≡◌, true, false, ◌≤◌, length};
-ghost use Rattle.pci.specs.declared.Msi.TheVariants.{None};
+ghost use Rattle.std.specs.Prelude.{◌≡◌, true, false, ◌≤◌, length, None};
 ghost use Rattle.device.specs.Machines.{machine, answer_of};
 ghost use Rattle.record.specs.Layout.{device_size};
 ghost use Rattle.record.specs.Loads.{device_at, is_device, Holds};
@@ -11,13 +10,14 @@ ghost use Rattle.serve.specs.Serve.{turns_answer, ServeNeeds};
 ghost use Rattle.advance.specs.Advance.{number_of, ticked_of, still_of, turns_where, answer_in, done_in, after_commands, advance_step, advance_of};
 
 use host::Host;
-use pci::Msi;
+use pci::Message;
 use serve::Served;
 
 // What the call answers beside the record, the lent spaces and memory: document 01's number, the INTx level it leaves, a message to send, and the host end.
+// No Result: the C reply has number and level also where the call is refused, and the host end is stored then too.
 #[derive(Clone, Copy)]
 pub struct Advanced {
-    pub msi: Msi,
+    pub msi: Option<Message>,
     pub host: Host,
     pub number: u32,
     pub level: bool,
@@ -27,7 +27,7 @@ pub struct Advanced {
 fn number_of(refused: bool) -> u32
     ensures { result ≡ number_of refused }
 {
-    if refused { 1 } else { 0 }
+    u32::from(refused)
 }
 
 // The answer of a call that leaves everything as it is.
@@ -39,8 +39,8 @@ fn unchanged(device: &[u8], host: Host, number: u32) -> Advanced
     Advanced {
         number: s.number,
         level: s.level,
-        msi: Msi::None,
-        host: host,
+        msi: None,
+        host,
     }
 }
 
@@ -62,7 +62,7 @@ fn tick(device: &mut [u8], nanos: u64)
     let next = c.advance(nanos);
     record::replace_clock(device, next);
     let shown = next.shown();
-    word::put32(
+    word::put::<u32>(
         &mut device[record::REGISTERS..record::CODEC],
         registers::WALCLK,
         shown,
@@ -82,13 +82,13 @@ fn turns(
     ensures memory_after { turns_answer result device.new lists.new queues.new memory.new ≡ turns_where nanos (machine (device_at device.old) host lists.old queues.old memory.old) }
     ensures device_after { is_device device.new ≡ true }
 {
-    if !registers::dma_enabled_in(
+    if !registers::dma_enabled(
         &device[record::CONFIG..record::REGISTERS],
         &device[record::REGISTERS..record::CODEC],
     ) {
         return Served {
+            host,
             refused: false,
-            host: host,
         };
     }
     serve::serve(device, host, lists, queues, memory, nanos)
@@ -109,13 +109,11 @@ fn after_commands(
 {
     let r = turns(device, host, lists, queues, memory, nanos);
     let ended = in_place::finish(device);
-    let msi = ended.msi;
-    let end = r.host;
     Advanced {
+        msi: ended.msi,
+        host: r.host,
         number: number_of(r.refused),
         level: ended.level,
-        msi: msi,
-        host: end,
     }
 }
 
@@ -150,9 +148,8 @@ pub fn advance(
     ensures memory_after { done_in result device.new lists.new queues.new memory.new ≡ advance_of nanos (machine (device_at device.old) host lists.old queues.old memory.old) }
     ensures device_after { is_device device.new ≡ true }
 {
-    let number = read::check(device, host, lists, queues.len());
-    if number != 0 {
-        return unchanged(device, host, number);
+    if let Err(refusal) = read::check(device, host, lists, queues.len()) {
+        return unchanged(device, host, refusal.number());
     }
     if is_still(device) {
         return unchanged(device, host, 0);

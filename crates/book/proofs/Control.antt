@@ -9,8 +9,7 @@ use Rattle.word.specs.Place.{word_at}
 use Rattle.word.specs.Parts.{part_of}
 use Rattle.word.specs.Each.{each_of, always}
 use Rattle.word.proofs.Choices.{by_cond, by_both}
-use Rattle.format.specs.declared.Format.{Format}
-use Rattle.format.specs.declared.Format.TheVariants.{Unsupported, Rate}
+use Rattle.std.specs.Prelude.{Option, None, Some}
 use Rattle.format.specs.Format.{format_of}
 use Rattle.stream.specs.Box.{streams}
 use Rattle.stream.specs.Streams.{list_size}
@@ -39,9 +38,9 @@ module _ (F : Type 0) (l : List ℕ) (a : Ghost) (i : ℕ) where
   unfolding halted_of
   halted-tied x t = tied-times F x.attached.stream l a _ (λ _. omega arith) t
 
-  started-by : (microphone : Bool) (x : Channel) (f : Format) → Tied F x.attached.stream l a → Tied F (started_by microphone i x f).attached.stream l a
-  started-by microphone x Unsupported t = error-tied x t
-  started-by microphone x (Rate r) t =
+  started-by : (microphone : Bool) (x : Channel) (f : Option ℕ) → Tied F x.attached.stream l a → Tied F (started_by microphone i x f).attached.stream l a
+  started-by microphone x None t = error-tied x t
+  started-by microphone x (Some r) t =
       by_cond (λ (y : Channel). Tied F y.attached.stream l a) (open_stream_of x.attached.host microphone i).ok _ (error_of i x) (λ _. t) (λ _. error-tied x t)
 
   started-tied : (microphone : Bool) (x : Channel) → Tied F x.attached.stream l a → Tied F (started_of microphone i x).attached.stream l a

@@ -6,8 +6,7 @@ use mathlib.Core.List.{List, [], ◌∷◌}
 use lib.ListN.{set, replicate}
 use Rattle.word.specs.Place.{word_at, put_at, store_at}
 use Rattle.word.specs.Each.{each_of}
-use Rattle.format.specs.declared.Format.{Format}
-use Rattle.format.specs.declared.Format.TheVariants.{Unsupported, Rate}
+use Rattle.std.specs.Prelude.{Option, None, Some}
 use Rattle.format.specs.Hda.{pcm_of}
 use Rattle.format.specs.Format.{format_of}
 use Rattle.stream.specs.Box.{streams}
@@ -51,9 +50,9 @@ running = set (set (set reset_of (fmt 0) 0x11) (ctl 0) 2) gctl 1
 abbrev refusing : Machine
 refusing = machine (with_regs (fresh_of true) running) (host false true 0 (replicate streams closed)) [] [] []
 
-supported : Format → Bool
-supported Unsupported = false
-supported (Rate rate) = true
+supported : Option ℕ → Bool
+supported None = false
+supported (Some rate) = true
 
 accepted : supported (format_of (word_at 2 (fmt 0) running)) ≡ true
 unfolding supported reset_of reset_stream_of store_at put_at each_of word_at format_of pcm_of

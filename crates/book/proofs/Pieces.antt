@@ -6,8 +6,8 @@ use mathlib.Core.List.{[], ◌∷◌}
 use native.Mathlib.Omega.{arith}
 use borrow.Author.Tests.{lt-ltb, le-ltb}
 use Rattle.stream.specs.declared.Cyclic.{Cyclic}
-use Rattle.plan.specs.declared.Plan.{Plan}
-use Rattle.plan.specs.declared.Plan.TheVariants.{Failed, Full, Move}
+use Rattle.std.specs.Prelude.{Ok, Err}
+use Rattle.plan.specs.Plans.{Plan}
 use Rattle.plan.specs.Plans.{plan_of}
 use Rattle.pieces.specs.Pieces.{State, done_of, piece_of, pieces_of}
 use Rattle.pieces.proofs.Plans.{plan-ok}
@@ -28,12 +28,11 @@ module _ (F : Type 0) (v : Given) (g : Cyclic) (buffered : g ≡ buffer_of v) (c
   plan-tied : (x : State) (a : Ghost) → x.done < count → Going F count x a → (p : Plan) → NextOk g count x p → Says v x.stream x.memory (count - x.done) p
       → let o = done_of g x p in Going F count o.state (sees (only_if o.ok (moved (attempt_of v count x) ∷ [])) a)
   unfolding done_of
-  plan-tied x a more t Failed k says = t
-  plan-tied x a more t Full k says = t
-  plan-tied x a more t (Move at n end) k says =
+  plan-tied x a more t (Err stop) k says = t
+  plan-tied x a more t (Ok move) k says =
       record {
-        tied = tied_moved F v g buffered count byte x a at n end more k says (omega (arith, t.room, k.few)) t.tied;
-        room = omega (arith, t.room, k.few, next-submitted x.stream g.lvi n end, next-consumed x.stream g.lvi n end);
+        tied = tied_moved F v g buffered count byte x a move.at move.n move.end more k says (omega (arith, t.room, k.few)) t.tied;
+        room = omega (arith, t.room, k.few, next-submitted x.stream g.lvi move.n move.end, next-consumed x.stream g.lvi move.n move.end);
       }
 
   piece-tied : (x : State) (a : Ghost) → x.done < count → Going F count x a
@@ -62,9 +61,8 @@ module _ (g : Cyclic) (count : ℕ) where
   -- a piece that does not move leaves all as it was
   stuck-by : (x : State) (p : Plan) → plan_of g x.stream x.memory (count - x.done) ≡ p → (done_of g x p).ok ≡ false → Stuck x × ((done_of g x p).state ≡ x)
   unfolding done_of
-  stuck-by x Failed e stopped = (rw e, refl)
-  stuck-by x Full e stopped = (rw e, refl)
-  stuck-by x (Move at n end) e stopped = absurd (true≢false stopped)
+  stuck-by x (Err stop) e stopped = (rw e, refl)
+  stuck-by x (Ok move) e stopped = absurd (true≢false stopped)
 
   pub pieces-stuck : (fuel : ℕ) (x : State) → let o = pieces_of fuel g count x in o.ok ≡ false → Stuck o.state × (standing_of fuel g count x ≡ o.state)
   unfolding standing_of piece_of

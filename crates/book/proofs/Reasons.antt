@@ -8,16 +8,14 @@ use borrow.Author.Tests.{not-false, ltb-true, ltb-false, leb-true, leb-false, le
 use lib.Dec.{eqb, leb, ltb}
 use lib.ListN.{length, get_or}
 use Rattle.word.proofs.Choices.{by-test, by_cond, neither}
-use Rattle.memory.specs.declared.Fetched.TheVariants.{Outside}
 use Rattle.memory.specs.Memory.{entry_at, descriptor_of}
 use Rattle.stream.specs.declared.Stream.{Stream}
 use Rattle.stream.specs.declared.Cyclic.{Cyclic}
 use Rattle.plan.specs.declared.End.{End}
 use Rattle.plan.specs.declared.End.TheVariants.{Inside, Plain, Flagged}
-use Rattle.plan.specs.declared.Plan.{Plan}
-use Rattle.plan.specs.declared.Plan.TheVariants.{Failed, Full, Move}
 use Rattle.stream.specs.Streams.{places, max_count}
-use Rattle.plan.specs.Plans.{ready_of, end_of, placed_of, entry_of, fetched_of, plan_of}
+use Rattle.plan.specs.Plans.{Plan, failed, full, ready_of, end_of, placed_of, entry_of, fetched_of, plan_of}
+use Rattle.std.specs.Prelude.{None, Ok, Err}
 use Rattle.book.specs.Buffers.{Attempt, entry_place, entry_address, entry_length, entry_flagged, piece_bytes, ends_entry}
 use Rattle.book.specs.Book.{limit}
 use Rattle.book.specs.Reasons.{reasons_of, any_of, is_reason, is_limit}
@@ -39,9 +37,8 @@ flagged_of Plain = false
 flagged_of Flagged = true
 
 abbrev pub moves : Plan → Bool
-moves Failed = false
-moves Full = false
-moves (Move at n end) = true
+moves (Err stop) = false
+moves (Ok move) = true
 
 -- with few pending the limit does not hold
 pub below-limit : (a : Attempt) (index offset submitted pending : ℕ) → pending < limit → is_limit a index offset submitted pending ≡ false
@@ -152,29 +149,28 @@ module _ (v : Given) (s : Stream) (m : List ℕ) (left : ℕ) where
     held : leb (entry_address attempt s.descriptor + (s.offset + piece_bytes attempt s.descriptor s.offset s.submitted)) (length m) ≡ true
     counted : leb (s.submitted + piece_bytes attempt s.descriptor s.offset s.submitted) max_count ≡ true
 
-  plan-by : (P : Plan → Type 0) → P Failed
+  plan-by : (P : Plan → Type 0) → P failed
       → (Passed → P (end_of s (entry_at m (entry_place attempt s.descriptor)) (piece_bytes attempt s.descriptor s.offset s.submitted))) → P (plan_of (buffer_of v) s m left)
   unfolding plan_of descriptor_of entry_at entry_of placed_of
   plan-by P stops ends =
       let n = piece_bytes attempt s.descriptor s.offset s.submitted in
       let size = length m in
-      by_cond P (ltb v.last s.descriptor) Failed _ (λ _. stops)
-      (λ listed. by_cond (λ f. P (fetched_of (buffer_of v) s size left f)) (leb (entry_place attempt s.descriptor + 16) size) _ Outside
-      (λ there. by_cond P (eqb (entry_length attempt s.descriptor) 0) Failed _ (λ _. stops)
-      (λ long. by_cond P (eqb (entry_length attempt s.descriptor % 4) 0) _ Failed
-      (λ even. by_cond P (ltb s.offset (entry_length attempt s.descriptor)) _ Failed
-      (λ inside. by_cond P (leb (entry_address attempt s.descriptor + (s.offset + n)) size) _ Failed
-      (λ held. by_cond P (leb (s.submitted + n) max_count) _ Failed
+      by_cond P (ltb v.last s.descriptor) failed _ (λ _. stops)
+      (λ listed. by_cond (λ f. P (fetched_of (buffer_of v) s size left f)) (leb (entry_place attempt s.descriptor + 16) size) _ None
+      (λ there. by_cond P (eqb (entry_length attempt s.descriptor) 0) failed _ (λ _. stops)
+      (λ long. by_cond P (eqb (entry_length attempt s.descriptor % 4) 0) _ failed
+      (λ even. by_cond P (ltb s.offset (entry_length attempt s.descriptor)) _ failed
+      (λ inside. by_cond P (leb (entry_address attempt s.descriptor + (s.offset + n)) size) _ failed
+      (λ held. by_cond P (leb (s.submitted + n) max_count) _ failed
       (λ counted. ends (record { listed = listed; there = there; long = long; even = even; inside = inside; held = held; counted = counted }))
       (λ _. stops)) (λ _. stops)) (λ _. stops)) (λ _. stops))) (λ _. stops))
 
   -- ---- what a piece that moves is: its bytes, whether it ends its descriptor, and whether that end is flagged
   abbrev pub Says : Plan → Type 0
-  Says Failed = Unit {0}
-  Says Full = Unit {0}
-  Says (Move at n end) =
+  Says (Err stop) = Unit {0}
+  Says (Ok move) =
       let ended = ends_entry attempt s.descriptor s.offset s.submitted in
-      (n ≡ piece_bytes attempt s.descriptor s.offset s.submitted) × (ended ≡ ends_of end) × (ended && entry_flagged attempt s.descriptor ≡ flagged_of end)
+      (move.n ≡ piece_bytes attempt s.descriptor s.offset s.submitted) × (ended ≡ ends_of move.end) × (ended && entry_flagged attempt s.descriptor ≡ flagged_of move.end)
 
   pub plan-says : Says (plan_of (buffer_of v) s m left)
   unfolding entry_at end_of
@@ -182,7 +178,7 @@ module _ (v : Given) (s : Stream) (m : List ℕ) (left : ℕ) where
       plan-by Says tt
       (λ _. by_cond Says (ends_entry attempt s.descriptor s.offset s.submitted) _ _
       (λ ends. by_cond Says (entry_flagged attempt s.descriptor) _ _
-      (λ flagged. by_cond Says (ltb s.pending places) _ Full (λ _. (refl, ends, rw (ends, flagged))) (λ _. tt))
+      (λ flagged. by_cond Says (ltb s.pending places) _ full (λ _. (refl, ends, rw (ends, flagged))) (λ _. tt))
       (λ plain. (refl, ends, rw (ends, plain))))
       (λ inside. (refl, inside, rw inside)))
 
@@ -193,7 +189,7 @@ module _ (v : Given) (s : Stream) (m : List ℕ) (left : ℕ) where
   abbrev Quiet : Plan → Type 0
   Quiet p = moves p ≡ true → Reason ≡ false
 
-  stops : Quiet Failed
+  stops : Quiet failed
   stops e = absurd (true≢false (sym e))
 
   taken-quiet : eqb v.cyclic 0 ≡ false → eqb (v.cyclic % 4) 0 ≡ true → leb v.last 255 ≡ true → Quiet (plan_of (buffer_of v) s m left)
@@ -218,7 +214,7 @@ module _ (v : Given) (s : Stream) (m : List ℕ) (left : ℕ) where
       ) in
       by_cond Quiet (eqb (s.offset + n) (entry_length attempt s.descriptor)) _ _
       (λ ends. by_cond Quiet (entry_flagged attempt s.descriptor) _ _
-      (λ flagged. by_cond Quiet (ltb s.pending places) _ Full
+      (λ flagged. by_cond Quiet (ltb s.pending places) _ full
       (λ room _. rw (free, ends, flagged, lt-leb limit s.pending (omega (arith, ltb-true s.pending places room)))) (λ _ e. absurd (true≢false (sym e))))
       (λ plain _. rw (free, ends, plain)))
       (λ inside _. rw (free, inside)))

@@ -17,8 +17,7 @@ use Rattle.word.specs.Each.{each_of, further}
 use Rattle.word.proofs.Choices.{by_cond, by_both, by-not}
 use Rattle.word.proofs.Lists.{drop-take}
 use Rattle.word.proofs.Place.{word_bound, length-store, word-store, word-elsewhere}
-use Rattle.format.specs.declared.Format.{Format}
-use Rattle.format.specs.declared.Format.TheVariants.{Unsupported, Rate}
+use Rattle.std.specs.Prelude.{Option, None, Some}
 use Rattle.format.specs.Format.{format_of}
 use Rattle.codec.specs.declared.Codec.{Codec}
 use Rattle.stream.specs.declared.Stream.{Stream}
@@ -101,9 +100,9 @@ module _ (regs : List ℕ) (codec : Codec) (h : Host) (microphone : Bool) (i nan
   unfolding turn_of
   turn-regs P stores = go (format_of (word_at 2 (fmt i) regs))
     where
-      go : (f : Format) → P (formatted_of regs codec h microphone i nanos limit s l part m f).regs
-      go Unsupported = stores (stopped_of (engine_of regs h i s))
-      go (Rate rate) = by_cond (λ (t : Turn). P t.regs) (open_stream_of h microphone i).ok _ _ (λ _. stores _) (λ _. stores _)
+      go : (f : Option ℕ) → P (formatted_of regs codec h microphone i nanos limit s l part m f).regs
+      go None = stores (stopped_of (engine_of regs h i s))
+      go (Some rate) = by_cond (λ (t : Turn). P t.regs) (open_stream_of h microphone i).ok _ _ (λ _. stores _) (λ _. stores _)
 
   -- its own, where it is served
   module _ (few : i < streams) (sized : length regs ≡ size) (small : word_at 4 (cbl i) regs < 256 ^ 4) where
@@ -120,11 +119,11 @@ module _ (regs : List ℕ) (codec : Codec) (h : Host) (microphone : Bool) (i nan
         ∙ place
         ∙ ap (position_of x.stream.consumed) (sym (stored-elsewhere i x regs few sized 4 (cbl i) (inr (omega arith))))
 
-    formatted-shows : (v : Given) (f : Format) → Serves (formatted_events v regs codec h microphone i nanos limit s l part m f)
+    formatted-shows : (v : Given) (f : Option ℕ) → Serves (formatted_events v regs codec h microphone i nanos limit s l part m f)
         → let t = formatted_of regs codec h microphone i nanos limit s l part m f in
         word_at 4 (lpib i) t.regs ≡ position_of t.turned.stream.consumed (word_at 4 (cbl i) t.regs)
-    formatted-shows v Unsupported none = absurd none
-    formatted-shows v (Rate rate) some =
+    formatted-shows v None none = absurd none
+    formatted-shows v (Some rate) some =
         let o = open_stream_of h microphone i in
         by_both (λ (t : Turn) (es : List Event). Serves es → word_at 4 (lpib i) t.regs ≡ position_of t.turned.stream.consumed (word_at 4 (cbl i) t.regs))
         o.ok _ _ _ (refused ∷ []) (λ _ _. served-shows rate o.host.downstream (engine_of regs o.host i s)) (λ _ none. absurd none) some
@@ -263,12 +262,12 @@ module _ (downstream nanos i : ℕ) (own : i < streams) where
       (serve_events downstream nanos i x) [] (λ _ some. finished-shows (number_of w.refused) w.machine (serve-shown x t some)) (λ _ none. absurd none) some
 
   -- a stream that runs, whose format is supported and whose opening is not refused, has an event
-  format-some : (x : Machine) (f : Format) → (f ≡ Unsupported → ⊥) → (open_stream_of x.host x.hda.microphone i).ok ≡ true
+  format-some : (x : Machine) (f : Option ℕ) → (f ≡ None → ⊥) → (open_stream_of x.host x.hda.microphone i).ok ≡ true
       → let d = x.hda in
       Serves (formatted_events (given_of i downstream d.regs) d.regs d.link.codec x.host d.microphone i nanos capacity (stream_at d i) (part_of list_size i x.lists) (part_of capacity i x.queues) x.memory f)
   unfolding served_events
-  format-some x Unsupported known live = absurd (known refl)
-  format-some x (Rate rate) known live = rw live tt
+  format-some x None known live = absurd (known refl)
+  format-some x (Some rate) known live = rw live tt
 
   served-some : (x : Machine) → Served i x → Serves (turn_events downstream nanos i x)
   unfolding turn_events
@@ -290,10 +289,10 @@ advanced-shows nanos i own x t some =
     (λ _ none. absurd none) some
 
 -- a refused opening is all of its turn
-declined-format : (v : Given) (regs : List ℕ) (codec : Codec) (h : Host) (microphone : Bool) (i nanos limit : ℕ) (s : Stream) (l part m : List ℕ) (f : Format) → (f ≡ Unsupported → ⊥)
+declined-format : (v : Given) (regs : List ℕ) (codec : Codec) (h : Host) (microphone : Bool) (i nanos limit : ℕ) (s : Stream) (l part m : List ℕ) (f : Option ℕ) → (f ≡ None → ⊥)
     → (open_stream_of h microphone i).ok ≡ false → formatted_events v regs codec h microphone i nanos limit s l part m f ≡ refused ∷ []
-declined-format v regs codec h microphone i nanos limit s l part m Unsupported known closed = absurd (known refl)
-declined-format v regs codec h microphone i nanos limit s l part m (Rate rate) known closed = rw closed
+declined-format v regs codec h microphone i nanos limit s l part m None known closed = absurd (known refl)
+declined-format v regs codec h microphone i nanos limit s l part m (Some rate) known closed = rw closed
 
 pub declined : (i downstream nanos : ℕ) (x : Machine) → Declined i x → turn_events downstream nanos i x ≡ refused ∷ []
 unfolding turn_events

@@ -16,7 +16,7 @@ use Rattle.stream.specs.Update.{consumed_of, retired_of, update_of}
 use Rattle.stream.proofs.Validity.{valid-parts, parts-valid, fresh-valid, retired-few, update-list-length, update-valid}
 use Rattle.plan.specs.declared.End.{End}
 use Rattle.plan.specs.declared.End.TheVariants.{Inside, Plain, Flagged}
-use Rattle.plan.specs.declared.Plan.TheVariants.{Move}
+use Rattle.plan.specs.Plans.{move}
 use Rattle.pieces.specs.Pieces.{State, next_of, moved_of}
 use Rattle.pieces.specs.Ends.{ended_of}
 use Rattle.pieces.proofs.Turns.{Moves}
@@ -209,7 +209,7 @@ module _ (F : Type 0) where
   module _ (v : Given) (g : Cyclic) (buffered : g ≡ buffer_of v) (count : ℕ) (byte : g.lvi ≤ 255) where
     -- the book moves by the piece that the device moves
     moved_same : (x : State) (b : Book) (at n : ℕ) (end : End) → x.stream.submitted ≡ b.submitted → x.stream.descriptor ≡ b.index → x.stream.offset ≡ b.offset
-        → Says v x.stream x.memory (count - x.done) (Move at n end)
+        → Says v x.stream x.memory (count - x.done) (move at n end)
         → moved_by (attempt_of v count x) b ≡ moved_to n (ends_of end) (flagged_of end) (entry_behind (attempt_of v count x) b.index) b
     moved_same x b at n end submitted index offset says =
         let a = attempt_of v count x in
@@ -223,7 +223,7 @@ module _ (F : Type 0) where
         ∙ ap (λ (t : Bool). moved_to n t flagged behind b) ends
         ∙ ap (λ (t : Bool). moved_to n (ends_of end) t behind b) flags
 
-    pub tied_moved : (x : State) (a : Ghost) (at n : ℕ) (end : End) → x.done < count → Moves g count x at n end → Says v x.stream x.memory (count - x.done) (Move at n end)
+    pub tied_moved : (x : State) (a : Ghost) (at n : ℕ) (end : End) → x.done < count → Moves g count x at n end → Says v x.stream x.memory (count - x.done) (move at n end)
         → x.stream.submitted + n ≤ x.stream.consumed + 16384 → Tied F x.stream x.list a
         → let y = moved_of g x at n end in Tied F y.stream y.list (see (moved (attempt_of v count x)) a)
     unfolding note

@@ -10,8 +10,7 @@ use lib.Dec.{leb, ltb, eqb}
 use lib.ListN.{length, length-set}
 use lib.Seq.{get_or-set_same}
 use Rattle.word.proofs.Choices.{left, by-test, by_cond, by_both}
-use Rattle.format.specs.declared.Format.{Format}
-use Rattle.format.specs.declared.Format.TheVariants.{Unsupported, Rate}
+use Rattle.std.specs.Prelude.{Option, None, Some}
 use Rattle.codec.specs.declared.Codec.{Codec}
 use Rattle.clock.specs.Frames.{whole_frames_of}
 use Rattle.clock.proofs.Theorems.{accrue-bound}
@@ -31,8 +30,7 @@ use Rattle.transfer.specs.Transfers.{Transfer, with_pieces, silence, taken_of, c
 use Rattle.transfer.proofs.Laws.{ready-cyclic}
 use Rattle.host.specs.declared.Host.{Host}
 use Rattle.host.specs.Hosts as hosts
-use Rattle.host.specs.declared.Opening.{Opening}
-use Rattle.host.specs.Hosts.{queue_at, with_queue, fails_of, opening_of, open_of}
+use Rattle.host.specs.Hosts.{Opening, queue_at, with_queue, fails_of, opening_of, open_of}
 use Rattle.host.proofs.Checks.{valid-queue}
 use Rattle.turn.specs.declared.Setup.{Setup}
 use Rattle.turn.specs.declared.Engine.{Engine}
@@ -306,11 +304,11 @@ module _ (F : Type 0) (regs : List ℕ) (codec : Codec) (h : Host) (microphone :
   begins : (h' : Host) → hosts.valid_of h' ≡ true → Still F s (queue_at h' i) l a
   begins h' v = record { tied = t; queued = queue-bound (queue_at h' i) (valid-queue h' v i) }
 
-  pub formatted-tied : (f : Format)
+  pub formatted-tied : (f : Option ℕ)
       → let r = formatted_of regs codec h microphone i nanos limit s l part m f in
       Tied F r.turned.stream r.list (sees (formatted_events (given_of i downstream regs) regs codec h microphone i nanos limit s l part m f) a)
-  formatted-tied Unsupported = (stopped-still F (engine_of regs h i s) l a (begins h host)).tied
-  formatted-tied (Rate rate) =
+  formatted-tied None = (stopped-still F (engine_of regs h i s) l a (begins h host)).tied
+  formatted-tied (Some rate) =
       let o = open_stream_of h microphone i in
       let v = open-stream-valid h microphone i host in
       let e = engine_of regs o.host i s in

@@ -1,8 +1,7 @@
 -- What follows from demand 3: no completion dropped or reported twice, the position register after a turn, and how far a stream is ahead of what is heard.
-use Rattle.std.specs.Prelude.{ℕ, ◌+◌, ◌*◌, ◌≤◌, ◌<◌, ◌≡◌, Bool, true, false, cond, List, [], ◌∷◌, eqb, length, take}
+use Rattle.std.specs.Prelude.{ℕ, ◌+◌, ◌*◌, ◌≤◌, ◌<◌, ◌≡◌, Bool, true, false, cond, List, [], ◌∷◌, eqb, length, take, None}
 use Rattle.word.specs.Value.{Bytes}
 use Rattle.word.specs.Place.{word_at}
-use Rattle.format.specs.declared.Format.TheVariants.{Unsupported}
 use Rattle.format.specs.Format.{format_of}
 use Rattle.stream.specs.Box.{streams}
 use Rattle.stream.specs.Streams.{list_size}
@@ -63,13 +62,13 @@ pub record Whole (d : Hda) : Type 0 where
 -- a stream's turn serves it: it runs, its format is supported, its opening is not refused
 pub record Served (i : ℕ) (x : Machine) : Type 0 where
   pub runs : runs x.hda.regs i ≡ true
-  pub format : format_of (word_at 2 (fmt i) x.hda.regs) ≡ Unsupported → ⊥
+  pub format : format_of (word_at 2 (fmt i) x.hda.regs) ≡ None → ⊥
   pub opens : (open_stream_of x.host x.hda.microphone i).ok ≡ true
 
 -- a stream's turn finds it running with a supported format, and the host refuses to open it
 pub record Declined (i : ℕ) (x : Machine) : Type 0 where
   pub runs : runs x.hda.regs i ≡ true
-  pub format : format_of (word_at 2 (fmt i) x.hda.regs) ≡ Unsupported → ⊥
+  pub format : format_of (word_at 2 (fmt i) x.hda.regs) ≡ None → ⊥
   pub closed : (open_stream_of x.host x.hda.microphone i).ok ≡ false
 
 -- the book begins with a position update: of an `advance`, that it served the stream

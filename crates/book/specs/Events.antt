@@ -1,10 +1,8 @@
 -- What happens to stream i in a call, read off the definitions that the calls' contracts cite: each step follows the definition of the same name and asks it what it did.
-use Rattle.std.specs.Prelude.{ℕ, zero, suc, ◌+◌, ◌-◌, ◌*◌, Bool, true, false, cond, not, ◌&&◌, ◌||◌, List, [], ◌∷◌, ◌++◌, drop, ltb, eqb}
+use Rattle.std.specs.Prelude.{ℕ, zero, suc, ◌+◌, ◌-◌, ◌*◌, Bool, true, false, cond, not, ◌&&◌, ◌||◌, List, [], ◌∷◌, ◌++◌, drop, ltb, eqb, Option, None, Some}
 use Rattle.word.specs.Place.{word_at}
 use Rattle.word.specs.Parts.{part_of}
 use Rattle.word.specs.Each.{each_of, always}
-use Rattle.format.specs.declared.Format.{Format}
-use Rattle.format.specs.declared.Format.TheVariants.{Unsupported, Rate}
 use Rattle.format.specs.Format.{format_of}
 use Rattle.codec.specs.declared.Codec.{Codec}
 use Rattle.positions.specs.Positions.{positions_of}
@@ -18,7 +16,7 @@ use Rattle.queue.specs.declared.Queue.{Queue}
 use Rattle.queue.specs.Queues.{capacity}
 use Rattle.transfer.specs.Transfers.{silence, taken_of, captured_of}
 use Rattle.host.specs.declared.Host.{Host}
-use Rattle.host.specs.declared.Opening.{Opening}
+use Rattle.host.specs.Hosts.{Opening}
 use Rattle.registers.specs.Places.{gctl, ctl, cbl, lvi, fmt, bdpl, byte_at, has, dma_of}
 use Rattle.turn.specs.declared.Setup.{Setup}
 use Rattle.turn.specs.declared.Engine.{Engine}
@@ -129,9 +127,9 @@ abbrev pub opened_events : Given → List ℕ → Codec → ℕ → ℕ → ℕ 
 opened_events v regs codec i rate nanos room s l part m o =
     cond o.ok (served_events v (setup_of regs codec i o.host.downstream room) rate nanos (work_of (engine_of regs o.host i s) l part m)) (refused ∷ [])
 
-abbrev pub formatted_events : Given → List ℕ → Codec → Host → Bool → ℕ → ℕ → ℕ → Stream → List ℕ → List ℕ → List ℕ → Format → List Event
-formatted_events v regs codec h microphone i nanos room s l part m Unsupported = []
-formatted_events v regs codec h microphone i nanos room s l part m (Rate rate) =
+abbrev pub formatted_events : Given → List ℕ → Codec → Host → Bool → ℕ → ℕ → ℕ → Stream → List ℕ → List ℕ → List ℕ → Option ℕ → List Event
+formatted_events v regs codec h microphone i nanos room s l part m None = []
+formatted_events v regs codec h microphone i nanos room s l part m (Some rate) =
     opened_events v regs codec i rate nanos room s l part m (open_stream_of h microphone i)
 
 unfoldable pub turn_events : ℕ → ℕ → ℕ → Machine → List Event

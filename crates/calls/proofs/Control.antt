@@ -6,8 +6,7 @@ use mathlib.Core.List.{List}
 use native.Mathlib.Omega.{arith}
 use Rattle.word.specs.Place.{word_at}
 use Rattle.word.proofs.Choices.{by_cond}
-use Rattle.format.specs.declared.Format.{Format}
-use Rattle.format.specs.declared.Format.TheVariants.{Unsupported, Rate}
+use Rattle.std.specs.Prelude.{Option, None, Some}
 use Rattle.format.specs.Format.{format_of}
 use Rattle.stream.specs.Box.{streams}
 use Rattle.stream.proofs.Validity.{fresh-valid}
@@ -31,9 +30,9 @@ module _ (i : ℕ) (few : i < streams) (l : List ℕ) where
       record { file = w.file; stream = remainder-valid x.attached.stream l w.stream; host = close-valid x.attached.host w.host i }
 
   module _ (microphone : Bool) where
-    by-format : (x : Channel) → Whole l x → (f : Format) → Whole l (started_by microphone i x f)
-    by-format x w Unsupported = error-whole i l x few w
-    by-format x w (Rate rate) =
+    by-format : (x : Channel) → Whole l x → (f : Option ℕ) → Whole l (started_by microphone i x f)
+    by-format x w None = error-whole i l x few w
+    by-format x w (Some rate) =
         by_cond (Whole l) (open_stream_of x.attached.host microphone i).ok _ _
         (λ _. record { file = w.file; stream = w.stream; host = open-stream-valid x.attached.host microphone i w.host })
         (λ _. error-whole i l x few w)

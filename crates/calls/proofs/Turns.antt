@@ -12,8 +12,7 @@ use Rattle.word.specs.Place.{word_at}
 use Rattle.word.proofs.Choices.{by_cond}
 use Rattle.clock.proofs.Theorems.{accrue-bound}
 use Rattle.clock.specs.Frames.{remainder_of}
-use Rattle.format.specs.declared.Format.{Format}
-use Rattle.format.specs.declared.Format.TheVariants.{Unsupported, Rate}
+use Rattle.std.specs.Prelude.{Option, None, Some}
 use Rattle.format.specs.Format.{format_of}
 use Rattle.codec.specs.declared.Codec.{Codec}
 use Rattle.stream.specs.declared.Stream.{Stream}
@@ -24,9 +23,8 @@ use Rattle.stream.proofs.Validity.{valid-parts, parts-valid}
 use Rattle.queue.specs.Queues.{capacity, closed, valid_queue, latency_of}
 use Rattle.queue.proofs.Validity.{queue-bound}
 use Rattle.host.specs.declared.Host.{Host}
-use Rattle.host.specs.declared.Opening.{Opening}
 use Rattle.host.specs.Hosts as hosts
-use Rattle.host.specs.Hosts.{queue_at}
+use Rattle.host.specs.Hosts.{Opening, queue_at}
 use Rattle.host.proofs.Validity.{with-queue-valid}
 use Rattle.transfer.proofs.Facts.{transfer-lengths}
 use Rattle.registers.specs.Places.{ctl, sts, lpib, fmt}
@@ -146,9 +144,9 @@ module _ (regs : List ℕ) (codec : Codec) (h : Host) (microphone : Bool) (i nan
           let before : Sound (length l) s (queue_at h i) l = record { sized = refl; stream = stream; queue = queue } in
           open-queue h microphone i (λ q. Sound (length l) s q l) before (λ live. (sound-kept (length l) long).empties s (queue_at h i) l live before)
 
-      go : (f : Format) → Filed (formatted_of regs codec h microphone i nanos limit s l part m f)
-      go Unsupported = (engine-file i (stopped_of (engine_of regs h i s)) regs few (stopped-byte (engine_of regs h i s) (file.bytes (sts i))) file, refl)
-      go (Rate rate) =
+      go : (f : Option ℕ) → Filed (formatted_of regs codec h microphone i nanos limit s l part m f)
+      go None = (engine-file i (stopped_of (engine_of regs h i s)) regs few (stopped-byte (engine_of regs h i s) (file.bytes (sts i))) file, refl)
+      go (Some rate) =
           let e = engine_of regs o.host i s in
           let g = setup_of regs codec i o.host.downstream limit in
           let w = served-working g (length l) (length part) long room rate nanos (work_of e l part m) (record {

@@ -13,8 +13,7 @@ use Rattle.word.specs.Place.{word_at}
 use Rattle.word.proofs.Choices.{by_cond, by_value}
 use Rattle.word.proofs.Each.{each_keeps}
 use Rattle.word.proofs.Lists.{at_set}
-use Rattle.format.specs.declared.Format.{Format}
-use Rattle.format.specs.declared.Format.TheVariants.{Unsupported, Rate}
+use Rattle.std.specs.Prelude.{Option, None, Some}
 use Rattle.format.specs.Format.{format_of}
 use Rattle.stream.specs.declared.Stream.{Stream}
 use Rattle.stream.specs.Box.{streams}
@@ -59,9 +58,9 @@ module _ (i n : ℕ) where
   unfolding reset_of
   reset-few j x = fresh-few
 
-  started-by : (j : ℕ) (microphone : Bool) (x : Channel) (f : Format) → Few x.attached.stream → Few (started_by microphone j x f).attached.stream
-  started-by j microphone x Unsupported h = error-few j x
-  started-by j microphone x (Rate r) h =
+  started-by : (j : ℕ) (microphone : Bool) (x : Channel) (f : Option ℕ) → Few x.attached.stream → Few (started_by microphone j x f).attached.stream
+  started-by j microphone x None h = error-few j x
+  started-by j microphone x (Some r) h =
       by_cond (λ (y : Channel). Few y.attached.stream) (open_stream_of x.attached.host microphone j).ok _ (error_of j x) (λ _. h) (λ _. error-few j x)
 
   started-few : (j : ℕ) (microphone : Bool) (x : Channel) → Few x.attached.stream → Few (started_of microphone j x).attached.stream

@@ -18,8 +18,7 @@ use Rattle.stream.specs.Streams.{list_size, fresh_of}
 use Rattle.queue.specs.declared.Queue.{Queue}
 use Rattle.queue.specs.Queues.{capacity, queue, closed}
 use Rattle.host.specs.declared.Host.{Host}
-use Rattle.host.specs.declared.Opening.{Opening}
-use Rattle.host.specs.Hosts.{open_of, opening_of, fails_of, queue_at, with_queue}
+use Rattle.host.specs.Hosts.{Opening, open_of, opening_of, fails_of, queue_at, with_queue}
 use Rattle.registers.specs.Places.{size, base_of, ssync, ctl, byte_at}
 use Rattle.turn.specs.declared.Engine.{Engine}
 use Rattle.turn.specs.Turns.{open_stream_of, store_engine, Turn, turn_of}

@@ -14,8 +14,7 @@ use Rattle.word.proofs.Choices.{left, by-test, by_cond}
 use Rattle.word.proofs.Lists.{at_set}
 use Rattle.clock.specs.Billionths.{billion}
 use Rattle.clock.specs.Frames.{whole_frames_of}
-use Rattle.format.specs.declared.Format.{Format}
-use Rattle.format.specs.declared.Format.TheVariants.{Unsupported, Rate}
+use Rattle.std.specs.Prelude.{Option, None, Some}
 use Rattle.format.specs.Format.{format_of}
 use Rattle.codec.specs.declared.Codec.{Codec}
 use Rattle.stream.specs.declared.Stream.{Stream}
@@ -23,8 +22,7 @@ use Rattle.stream.specs.Box.{captures}
 use Rattle.queue.specs.declared.Queue.{Queue}
 use Rattle.queue.specs.Queues.{capacity, queue, closed}
 use Rattle.host.specs.declared.Host.{Host}
-use Rattle.host.specs.declared.Opening.{Opening}
-use Rattle.host.specs.Hosts.{opening_of, open_of, queue_at, with_queue}
+use Rattle.host.specs.Hosts.{Opening, opening_of, open_of, queue_at, with_queue}
 use Rattle.registers.specs.Places.{ctl, sts, lpib, fmt, byte_at, keep_bits}
 use Rattle.turn.specs.declared.Engine.{Engine}
 use Rattle.turn.specs.Setups.{setup_of}
@@ -77,9 +75,9 @@ module _ (regs : List ℕ) (codec : Codec) (h : Host) (microphone : Bool) (i lim
   abbrev Late : Turn → Type 0
   Late t = whole_of t.turned.stream ≤ whole_of s - (limit - (queue_at h i).length) / 4
 
-  formatted-late : (f : Format) → Late (formatted_of regs codec h microphone i 0 limit s l part m f)
-  formatted-late Unsupported = rw (stopped-late (engine_of regs h i s)) (omega arith)
-  formatted-late (Rate rate) =
+  formatted-late : (f : Option ℕ) → Late (formatted_of regs codec h microphone i 0 limit s l part m f)
+  formatted-late None = rw (stopped-late (engine_of regs h i s)) (omega arith)
+  formatted-late (Some rate) =
       let o = open_stream_of h microphone i in
       let g = setup_of regs codec i o.host.downstream limit in
       let e = engine_of regs o.host i s in
@@ -103,9 +101,9 @@ module _ (regs : List ℕ) (codec : Codec) (h : Host) (microphone : Bool) (i lim
     unfolding stopped_of
     stopped-off e z = true≢false (sym (stored_on i (stopped_of e) regs z))
 
-    formatted-kept : (f : Format) → Kept (formatted_of regs codec h microphone i 0 limit s l part m f)
-    formatted-kept Unsupported = λ z. absurd (stopped-off (engine_of regs h i s) z)
-    formatted-kept (Rate rate) =
+    formatted-kept : (f : Option ℕ) → Kept (formatted_of regs codec h microphone i 0 limit s l part m f)
+    formatted-kept None = λ z. absurd (stopped-off (engine_of regs h i s) z)
+    formatted-kept (Some rate) =
         let o = open_stream_of h microphone i in
         let g = setup_of regs codec i o.host.downstream limit in
         let e = engine_of regs o.host i s in

@@ -1,18 +1,11 @@
 -- Laws of time counted in billionths: seconds apart from the rest, and the limit on whole frames.
 -- Assumes nothing.
-use Rattle.std.proofs.Common.{◌≡◌, ℕ, zero, suc, ◌+◌, ◌*◌, ◌/◌, ◌%◌, ◌^◌, ◌<◌, ◌≤◌, min, sym, ap, le_of_lt, add-mul, mul-le-mul, mul-le-mul_left, mul-zero, mul_right_comm, arith}
+use Rattle.std.proofs.Common.{◌≡◌, ℕ, zero, suc, ◌+◌, ◌*◌, ◌/◌, ◌%◌, ◌^◌, ◌≤◌, min, sym, ap, add-mul, mul-le-mul, mul-le-mul_left, mul-zero, mul_right_comm, arith}
 use native.Mathlib.Omega.{min_cases}
 use Rattle.clock.specs.declared.Clock.{Clock}
 use Rattle.clock.specs.Billionths.{billion, total_of, amount_of}
 use Rattle.clock.specs.Clock.{wall_rate, advance_of}
 use Rattle.clock.specs.Frames.{max_pending, limited, accrue_of}
-
--- at a 32-bit rate what less than a second gives, and what the seconds that count for a stream give, stay far from 64 bits
-pub part-bound : {nanos rate : ℕ} → nanos < billion → rate < 2 ^ 32 → nanos * rate ≤ billion * 2 ^ 32
-part-bound h k = mul-le-mul (le_of_lt h) (le_of_lt k)
-
-pub seconds-bound : {seconds rate : ℕ} → seconds ≤ max_pending → rate < 2 ^ 32 → seconds * rate ≤ max_pending * 2 ^ 32
-seconds-bound h k = mul-le-mul h (le_of_lt k)
 
 -- the remainder of `fraction` carries into the whole ones together with what is added
 pub carried : (added fraction : ℕ) →

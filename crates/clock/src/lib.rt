@@ -20,7 +20,7 @@ pub const WALL_RATE: u32 = 24_000_000;
 pub const MAX_PENDING_FRAMES: u64 = 8_192;
 
 // The wall clock: ticks, and billionths of the next tick.
-#[derive(Clone, Copy)]
+#[derive(Clone, Copy, PartialEq, Eq, Debug)]
 pub struct Clock {
     pub ticks: u64,
     pub fraction: u64,
@@ -42,9 +42,9 @@ impl Clock {
         ensures { result ≡ advance_of self nanos }
     {
         let part = part_of_second(nanos % BILLION, WALL_RATE, self.fraction);
-        let elapsed = nanos / BILLION * (WALL_RATE as u64) + part.whole;
+        let elapsed = nanos / BILLION * u64::from(WALL_RATE) + part.whole;
         Clock {
-            ticks: std::num::wrapping_add_u64(self.ticks, elapsed),
+            ticks: self.ticks.wrapping_add(elapsed),
             fraction: part.remainder,
         }
     }
@@ -63,9 +63,9 @@ pub fn accrue(fraction: u64, nanos: u64, rate: u32) -> u64
     ensures { result ≡ accrue_of rate nanos fraction }
 {
     let part = part_of_second(nanos % BILLION, rate, fraction);
-    let seconds = word::least(nanos / BILLION, MAX_PENDING_FRAMES);
-    let frames = seconds * (rate as u64) + part.whole;
-    word::least(frames, MAX_PENDING_FRAMES) * BILLION + part.remainder
+    let seconds = (nanos / BILLION).min(MAX_PENDING_FRAMES);
+    let frames = seconds * u64::from(rate) + part.whole;
+    frames.min(MAX_PENDING_FRAMES) * BILLION + part.remainder
 }
 
 // The whole frames that are due.
@@ -83,7 +83,7 @@ pub fn remainder(fraction: u64) -> u64
 }
 
 // A count in billionths: whole ones, and what is left over.
-#[derive(Clone, Copy)]
+#[derive(Clone, Copy, PartialEq, Eq, Debug)]
 struct Amount {
     whole: u64,
     remainder: u64,
@@ -94,7 +94,7 @@ fn part_of_second(nanos: u64, rate: u32, fraction: u64) -> Amount
     requires { nanos < billion }
     ensures { result ≡ amount_of (total_of rate nanos fraction) }
 {
-    let part = nanos * (rate as u64) + fraction % BILLION;
+    let part = nanos * u64::from(rate) + fraction % BILLION;
     let whole = fraction / BILLION + part / BILLION;
     Amount {
         whole,

@@ -10,7 +10,7 @@ use lib.Seq.{take-add, take-take, take_at, drop-cons, drop-drop}
 use Rattle.word.specs.Value.{Bytes}
 use Rattle.word.specs.Place.{put_at}
 use Rattle.word.proofs.Lists.{bytes_take, bytes_drop, bytes-append, length_part}
-use Rattle.word.proofs.Put.{put_same, length-put, bytes-put, put-there, put-join}
+use Rattle.word.proofs.Puts.{put_same, length-put, bytes-put, put-there, put-join}
 use Rattle.node.specs.declared.Node.{Node}
 use Rattle.codec.specs.declared.Codec.{Codec}
 use Rattle.codec.specs.Codecs.{absent, node_at}

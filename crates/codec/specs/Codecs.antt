@@ -1,19 +1,17 @@
 -- The codec: its fresh state, a command, whether a converter is live, and the amplifiers of a side (document 01, "Codec"; the Rust's `Codec`).
-use Rattle.std.specs.Prelude.{ℕ, ◌+◌, ◌/◌, ◌%◌, Bool, true, false, cond, not, ◌&&◌, ◌||◌, List, [], ◌∷◌, get_or, set, replicate, eqb, leb}
+use Rattle.std.specs.Prelude.{ℕ, ◌+◌, ◌/◌, ◌%◌, Bool, true, false, cond, not, ◌&&◌, ◌||◌, List, [], ◌∷◌, get_or, set, replicate, eqb, leb, Option, None, Some}
 use Rattle.node.specs.declared.Node.{Node}
 use Rattle.node.specs.declared.Answer.{Answer}
 use Rattle.codec.specs.declared.Codec.{Codec}
 use Rattle.codec.specs.declared.Outcome.{Outcome}
-use Rattle.codec.specs.declared.Reply.{Reply}
-use Rattle.codec.specs.declared.Reply.TheVariants.{Nothing, Value}
 use Rattle.node.specs.Command.{address_of, indirect, node_of, long_verb_of, payload_of, bit}
 use Rattle.node.specs.Parameters.{parameter_of}
 use Rattle.node.specs.Nodes.{byte, format_of, node_verb_of, fresh_node_of}
 
 -- the words that a reply puts on the link: none, or one
-abbrev pub words_of : Reply → List ℕ
-words_of Nothing = []
-words_of (Value v) = v ∷ []
+abbrev pub words_of : Option ℕ → List ℕ
+words_of None = []
+words_of (Some v) = v ∷ []
 
 -- The Rust's `Codec::default`: root, function group, output converter and pin, input converter and pin.
 unfoldable pub fresh_of : Codec
@@ -36,21 +34,21 @@ absent = record { bytes = [] }
 abbrev pub node_at : Codec → ℕ → Node
 node_at c i = get_or c.nodes i absent
 
-abbrev pub outcome : Codec → Reply → Outcome
+abbrev pub outcome : Codec → Option ℕ → Outcome
 outcome c r = record { codec = c; reply = r }
 
 -- the node's record put back, and its value as the reply
 abbrev pub stored : Codec → ℕ → Answer → Outcome
-stored c i a = outcome (record { nodes = set c.nodes i a.node }) (Value a.value)
+stored c i a = outcome (record { nodes = set c.nodes i a.node }) (Some a.value)
 
 -- A command (the Rust's `Codec::verb`). Function reset, 0x7ff on node 1, replaces all six records and puts none back.
 unfoldable pub verb_of : Codec → ℕ → Outcome
 verb_of c x =
-    cond (not (eqb (address_of x) 0) || indirect x) (outcome c Nothing)
-    (cond (leb 6 (node_of x)) (outcome c (Value 0))
-    (cond (eqb (long_verb_of x) 0xf00) (outcome c (Value (parameter_of (node_of x) (payload_of x))))
-    (cond (eqb (node_of x) 0) (outcome c (Value 0))
-    (cond (eqb (node_of x) 1 && eqb (long_verb_of x) 0x7ff) (outcome fresh_of (Value 0))
+    cond (not (eqb (address_of x) 0) || indirect x) (outcome c None)
+    (cond (leb 6 (node_of x)) (outcome c (Some 0))
+    (cond (eqb (long_verb_of x) 0xf00) (outcome c (Some (parameter_of (node_of x) (payload_of x))))
+    (cond (eqb (node_of x) 0) (outcome c (Some 0))
+    (cond (eqb (node_of x) 1 && eqb (long_verb_of x) 0x7ff) (outcome fresh_of (Some 0))
     (stored c (node_of x) (node_verb_of (node_at c (node_of x)) (node_of x) x))))))
 
 -- A converter is live: stream tag and channel 0, the stream's format, group, converter and pin in D0, and the pin enabled (`mask`).

@@ -10,25 +10,20 @@ ghost use Rattle.codec.specs.Bytes.{record_at, codec_at, store_codec_at};
 
 use node::Node;
 
-// What a command puts on the link: nothing, or one word (`words_of`).
-#[derive(Clone, Copy)]
-pub enum Reply {
-    Nothing,
-    Value(u32),
-}
-
-#[derive(Clone, Copy)]
+#[derive(Clone, Copy, PartialEq, Eq, Debug)]
 pub struct Codec {
     pub nodes: [Node; 6],
 }
 
-#[derive(Clone, Copy)]
+// The codec after a command, and the word that it puts on the link, where it puts one there (`words_of`).
+#[derive(Clone, Copy, PartialEq, Eq, Debug)]
 pub struct Outcome {
     pub codec: Codec,
-    pub reply: Reply,
+    pub reply: Option<u32>,
 }
 
 // Whether a converter, behind `group` and `pin`, plays stream `tag` at `format`; `mask` is the pin's enable bit.
+#[tactic(auto, unfolding(crate::specs::Codecs::live_of))]
 fn live(converter: Node, group: Node, pin: Node, mask: u8, tag: u8, format: u16) -> bool
     requires { 0 < mask }
     ensures { result ≡ live_of converter group pin mask tag format }
@@ -36,13 +31,13 @@ fn live(converter: Node, group: Node, pin: Node, mask: u8, tag: u8, format: u16)
     let stream = converter.bytes[6];
     let own = converter.format();
     (tag != 0)
-        & (stream / 16 == tag)
-        & (stream % 16 == 0)
-        & (own == format)
-        & (group.bytes[5] == 0)
-        & (converter.bytes[5] == 0)
-        & (pin.bytes[5] == 0)
-        & (pin.bytes[7] / mask % 2 == 1)
+        && (stream / 16 == tag)
+        && (stream % 16 == 0)
+        && (own == format)
+        && (group.bytes[5] == 0)
+        && (converter.bytes[5] == 0)
+        && (pin.bytes[5] == 0)
+        && (pin.bytes[7] / mask % 2 == 1)
 }
 
 // The record in the 24 bytes at `at`.
@@ -51,22 +46,22 @@ fn load_node(bytes: &[u8], at: usize) -> Node
     ensures { result ≡ record_at at bytes.now }
 {
     let mut own = [0u8; 24];
-    let end = at + 24;
-    word::copy(&bytes[at..end], &mut own);
+    own.copy_from_slice(&bytes[at..at + 24]);
     Node { bytes: own }
 }
 
 // The record into the 24 bytes at `at`.
+#[tactic(auto, unfolding(word::specs::Place::put_at))]
 fn store_node(node: Node, bytes: &mut [u8], at: usize)
     requires { at + 24 ≤ length bytes.old }
     ensures { bytes.new ≡ put_at at node.bytes bytes.old }
 {
-    let end = at + 24;
-    word::copy(&node.bytes, &mut bytes[at..end]);
+    bytes[at..at + 24].copy_from_slice(&node.bytes);
 }
 
 impl Codec {
     // The codec at reset (the Rust's `Codec::default`).
+    #[tactic(auto, unfolding(crate::specs::Codecs::fresh_of))]
     pub fn fresh() -> Codec
         ensures { result ≡ fresh_of }
     {
@@ -80,45 +75,55 @@ impl Codec {
     }
 
     // A command. One node's record is taken out whole and put back; function reset (0x7ff on node 1) replaces all six and puts none back.
+    #[tactic(auto, unfolding(crate::specs::Codecs::verb_of))]
     pub fn verb(mut self, command: u32) -> Outcome
         ensures { result ≡ verb_of self command }
     {
-        let other = (command / 0x1000_0000 != 0) | (command / 0x0800_0000 % 2 == 1);
+        let other = (command / 0x1000_0000 != 0) || (command / 0x0800_0000 % 2 == 1);
         if other {
-            let reply = Reply::Nothing;
-            return Outcome { codec: self, reply };
+            return Outcome {
+                codec: self,
+                reply: None,
+            };
         }
         let node = command / 0x0010_0000 % 128;
         if node >= 6 {
-            let reply = Reply::Value(0);
-            return Outcome { codec: self, reply };
+            return Outcome {
+                codec: self,
+                reply: Some(0),
+            };
         }
         let verb = command / 256 % 4096;
         if verb == 0xf00 {
             let value = node::parameter(node, command % 256);
-            let reply = Reply::Value(value);
-            return Outcome { codec: self, reply };
+            return Outcome {
+                codec: self,
+                reply: Some(value),
+            };
         }
         if node == 0 {
-            let reply = Reply::Value(0);
-            return Outcome { codec: self, reply };
+            return Outcome {
+                codec: self,
+                reply: Some(0),
+            };
         }
-        let reset = (node == 1) & (verb == 0x7ff);
-        if reset {
-            let reply = Reply::Value(0);
-            let codec = Codec::fresh();
-            return Outcome { codec, reply };
+        if node == 1 && verb == 0x7ff {
+            return Outcome {
+                codec: Codec::fresh(),
+                reply: Some(0),
+            };
         }
-        let i = node as usize;
-        let taken = self.nodes[i];
-        let answer = taken.verb(node, command);
-        let back = answer.node;
-        self.nodes[i] = back;
-        let reply = Reply::Value(answer.value);
-        Outcome { codec: self, reply }
+        let record = &mut self.nodes[node as usize];
+        let answer = record.verb(node, command);
+        *record = answer.node;
+        Outcome {
+            codec: self,
+            reply: Some(answer.value),
+        }
     }
 
     // Whether the converter of a direction is live for stream `tag` at `format`.
+    #[tactic(auto, unfolding(crate::specs::Codecs::connected_of))]
     pub fn connected(self, input: bool, tag: u8, format: u16) -> bool
         ensures { result ≡ connected_of self input tag format }
     {
@@ -135,6 +140,7 @@ impl Codec {
     }
 
     // The codec in the 144 bytes at `at`, as a saved state and the C functions have it.
+    #[tactic(auto, unfolding(crate::specs::Bytes::codec_at))]
     pub fn load(bytes: &[u8], at: usize) -> Codec
         requires { at + 144 ≤ length bytes.now }
         ensures { result ≡ codec_at at bytes.now }
@@ -155,11 +161,8 @@ impl Codec {
         requires { at + 144 ≤ length bytes.old }
         ensures { bytes.new ≡ store_codec_at at self bytes.old }
     {
-        let mut i = 0;
-        while i < 6 {
-            let n = self.nodes[i];
-            store_node(n, bytes, at + 24 * i);
-            i += 1;
+        for (i, node) in self.nodes.iter().enumerate() {
+            store_node(*node, bytes, at + 24 * i);
         }
     }
 }

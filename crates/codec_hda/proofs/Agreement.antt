@@ -1,4 +1,5 @@
 -- The device does what HDA 1.0a says of its codec, in every state and for every command, but for the named exceptions (specs/Exceptions).
+use Rattle.std.specs.Prelude.{Some}
 use Prim.Native.Nat.{ℕ, ◌*◌, ◌/◌, ◌%◌, ◌<◌}
 use mathlib.Core.Path.{◌≡◌, refl, sym, ◌∙◌}
 use mathlib.Core.Bool.{true, false, cond, ◌&&◌, not, and-false}
@@ -10,7 +11,6 @@ use Rattle.word.proofs.Choices.{by-test, both, by_value, by_bit, by-range, below
 use Rattle.node.specs.declared.Node.{Node}
 use Rattle.codec.specs.declared.Codec.{Codec}
 use Rattle.codec.specs.declared.Outcome.{Outcome}
-use Rattle.codec.specs.declared.Reply.TheVariants.{Value}
 use Rattle.node.specs.Command.{bit, address_of, indirect, node_of, short_verb_of, wide_payload_of, long_verb_of, payload_of}
 use Rattle.node.specs.Parameters.{parameter_of}
 use Rattle.node.specs.Nodes.{byte, set_amplifier_of, amplifier_of, set_of, entry_of, get_of, node_verb_of}
@@ -153,7 +153,7 @@ abbrev pub ruling_of : Outcome → Ruling
 ruling_of o = says (state_of o.codec) o.reply
 
 reset-agrees : (c : Codec) (node x : ℕ) → eqb node 1 && eqb (long_verb_of x) 0x7ff ≡ true → node_exception c node x ≡ None
-    → hda_node_of (state_of c) node x ≡ ruling_of (outcome fresh_of (Value 0))
+    → hda_node_of (state_of c) node x ≡ ruling_of (outcome fresh_of (Some 0))
 unfolding hda_node_of node_exception
 reset-agrees c node x t =
     let k = eqb-true (long_verb_of x) 0x7ff (both (eqb node 1) _ t).1 in

@@ -1,4 +1,5 @@
 -- No exception is idle: for each a codec and a command that raises it, at which HDA's ruling and the device's outcome differ.
+use Rattle.std.specs.Prelude.{unwrap_or}
 use Prim.Native.Nat.{ℕ}
 use mathlib.Core.Path.{◌≡◌, refl, sym, ap, ◌∙◌}
 use mathlib.Core.Bool.{false}
@@ -7,7 +8,6 @@ use borrow.Author.Tests.{eqb-false}
 use lib.Dec.{eqb}
 use Rattle.word.specs.Place.{word_at}
 use Rattle.codec.specs.declared.Codec.{Codec}
-use Rattle.codec.specs.declared.Reply.TheVariants.{Nothing, Value}
 use Rattle.node.specs.Nodes.{byte, set_amplifier_of, amplifier_of, set_of, get_of, node_verb_of, fresh_node_of}
 use Rattle.codec.specs.Codecs.{node_at, fresh_of, verb_of}
 use Rattle.codec_hda.specs.HdaParameters.{declared}
@@ -23,8 +23,7 @@ spoken silent = 0
 
 -- the reply, and 0 for none
 abbrev replied : Ruling → ℕ
-replied (says h (Value v)) = v
-replied (says h Nothing) = 0
+replied (says h r) = unwrap_or r 0
 replied silent = 0
 
 -- byte `i` of a node's record, in the state after the command

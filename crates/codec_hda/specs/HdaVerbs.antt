@@ -1,11 +1,9 @@
 -- The verbs by HDA 1.0a 7.3.3: which nodes have a verb follows from what they declare (HdaParameters), and a verb that a node lacks changes
 -- nothing and replies 0 (7.3.1). Written from the specification's tables; proofs/Agreement says where the device does the same.
-use Rattle.std.specs.Prelude.{ℕ, ◌+◌, ◌-◌, ◌*◌, ◌/◌, ◌%◌, ◌^◌, max, ◌≡◌, Bool, cond, not, ◌&&◌, ◌||◌, List, [], ◌∷◌, set, eqb, leb, ltb}
+use Rattle.std.specs.Prelude.{ℕ, ◌+◌, ◌-◌, ◌*◌, ◌/◌, ◌%◌, ◌^◌, max, ◌≡◌, Bool, cond, not, ◌&&◌, ◌||◌, List, [], ◌∷◌, set, eqb, leb, ltb, Option, None, Some}
 use Rattle.word.specs.Place.{word_at}
 use Rattle.node.specs.declared.Node.{Node}
 use Rattle.codec.specs.declared.Codec.{Codec}
-use Rattle.codec.specs.declared.Reply.{Reply}
-use Rattle.codec.specs.declared.Reply.TheVariants.{Nothing, Value}
 use Rattle.node.specs.Command.{bit, address_of, indirect, node_of, short_verb_of, wide_payload_of, long_verb_of, payload_of}
 use Rattle.node.specs.Nodes.{byte, put, put_if}
 use Rattle.codec.specs.Codecs.{node_at, fresh_of}
@@ -157,7 +155,7 @@ hda_reset_of c =
 
 -- what HDA says of a command: a state and a reply, or nothing
 pub data Ruling : Type 0 where
-  says : Hda → Reply → Ruling
+  says : Hda → Option ℕ → Ruling
   silent : Ruling
 
 -- a command to the function group or a widget
@@ -166,21 +164,21 @@ hda_node_of h node x =
     let n = node_at h.codec node in
     let verb = long_verb_of x in
     let v = payload_of x in
-    cond (eqb (short_verb_of x) 0x2) (says (with_node h node (hda_set_format_of n node (wide_payload_of x))) (Value 0))
-    (cond (eqb (short_verb_of x) 0x3) (says (with_node h node (hda_set_amplifier_of n node (wide_payload_of x) v)) (Value 0))
-    (cond (eqb (short_verb_of x) 0xa) (says h (Value (hda_format_of n node)))
-    (cond (eqb (short_verb_of x) 0xb) (says h (Value (hda_amplifier_of n node (wide_payload_of x))))
-    (cond (eqb node 1 && eqb verb 0x7ff) (says (hda (hda_reset_of h.codec) h.subsystem) (Value 0))
-    (cond (eqb node 1 && (leb 0x720 verb && ltb verb 0x724)) (says (hda h.codec (with_byte h.subsystem (verb - 0x720) v)) (Value 0))
-    (says (with_node h node (hda_set_of n node verb v)) (Value (hda_get_of (node_at h.codec 1) n node h.subsystem verb v))))))))
+    cond (eqb (short_verb_of x) 0x2) (says (with_node h node (hda_set_format_of n node (wide_payload_of x))) (Some 0))
+    (cond (eqb (short_verb_of x) 0x3) (says (with_node h node (hda_set_amplifier_of n node (wide_payload_of x) v)) (Some 0))
+    (cond (eqb (short_verb_of x) 0xa) (says h (Some (hda_format_of n node)))
+    (cond (eqb (short_verb_of x) 0xb) (says h (Some (hda_amplifier_of n node (wide_payload_of x))))
+    (cond (eqb node 1 && eqb verb 0x7ff) (says (hda (hda_reset_of h.codec) h.subsystem) (Some 0))
+    (cond (eqb node 1 && (leb 0x720 verb && ltb verb 0x724)) (says (hda h.codec (with_byte h.subsystem (verb - 0x720) v)) (Some 0))
+    (says (with_node h node (hda_set_of n node verb v)) (Some (hda_get_of (node_at h.codec 1) n node h.subsystem verb v))))))))
 
 -- A command (7.3): another codec's is not answered; the working of the indirect form is not specified; nodes past the widgets answer 0;
 -- any node has its parameters (7.3.3.1), and the root nothing else.
 unfoldable pub hda_verb_of : Hda → ℕ → Ruling
 hda_verb_of h x =
-    cond (not (eqb (address_of x) 0)) (says h Nothing)
+    cond (not (eqb (address_of x) 0)) (says h None)
     (cond (indirect x) silent
-    (cond (leb 6 (node_of x)) (says h (Value 0))
-    (cond (eqb (long_verb_of x) 0xf00) (says h (Value (declared (node_of x) (payload_of x))))
-    (cond (eqb (node_of x) 0) (says h (Value 0))
+    (cond (leb 6 (node_of x)) (says h (Some 0))
+    (cond (eqb (long_verb_of x) 0xf00) (says h (Some (declared (node_of x) (payload_of x))))
+    (cond (eqb (node_of x) 0) (says h (Some 0))
     (hda_node_of h (node_of x) x)))))

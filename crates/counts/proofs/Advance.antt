@@ -11,8 +11,7 @@ use Rattle.word.specs.Place.{word_at, store_at}
 use Rattle.word.proofs.Place.{byte-elsewhere, length-store}
 use Rattle.clock.specs.Clock as clock
 use Rattle.clock.specs.Frames.{accrue_of, whole_frames_of}
-use Rattle.format.specs.declared.Format.{Format}
-use Rattle.format.specs.declared.Format.TheVariants.{Rate}
+use Rattle.std.specs.Prelude.{Option, Some}
 use Rattle.format.specs.Format.{format_of}
 use Rattle.plan.specs.Plans.{ready_of}
 use Rattle.plan.proofs.Laws.{ready-byte}
@@ -166,13 +165,13 @@ module _ (x : Machine) (lists' queues' m' : List ℕ) (nanos nanos' : ℕ) (host
   windows : (j : ℕ) → j < streams → ready_of (cyclic_of regs₀ j) ≡ true → Listed P (cyclic_of regs₀ j)
   windows j few ready = let byte = ready-byte (cyclic_of regs₀ j) ready in record { entry = λ d h p lo hi. listed j few (omega arith) (omega arith) }
 
-  rated : (f fraction rate : ℕ) (k : Format) → k ≡ Rate rate → frames_by fraction f k ≡ whole_frames_of (accrue_of rate f fraction)
+  rated : (f fraction rate : ℕ) (k : Option ℕ) → k ≡ Some rate → frames_by fraction f k ≡ whole_frames_of (accrue_of rate f fraction)
   rated f fraction rate k e = rw e
 
   abbrev Movable : Type 0
   Movable = (i : ℕ) → i < streams → movable_of x.hda x.host i nanos ≡ movable_of x.hda x.host i nanos'
 
-  frames : Movable → (j : ℕ) → j < streams → (rate : ℕ) → format_of (word_at 2 (fmt j) regs₀) ≡ Rate rate
+  frames : Movable → (j : ℕ) → j < streams → (rate : ℕ) → format_of (word_at 2 (fmt j) regs₀) ≡ Some rate
       → let f = (stream_at x.hda j).fraction in let q = (queue_at x.host j).length in
       movable_by (captures j) q (whole_frames_of (accrue_of rate nanos f)) ≡ movable_by (captures j) q (whole_frames_of (accrue_of rate nanos' f))
   unfolding movable_of

@@ -11,7 +11,7 @@ use lib.Seq.{ext_get_or, get_or-take, get_or-drop}
 use Rattle.word.specs.Value.{value_of, bytes_of}
 use Rattle.word.specs.Place.{put_at, word_at, store_at}
 use Rattle.word.proofs.Choices.{by-test}
-use Rattle.word.proofs.Put.{length-put, put-there, put-byte-elsewhere, set-put}
+use Rattle.word.proofs.Puts.{length-put, put-there, put-byte-elsewhere, set-put}
 use Rattle.word.proofs.Place.{store-put}
 use Rattle.word.proofs.Value.{length-bytes}
 use Rattle.memory.specs.Memory.{read_of, write_of, entry_at, descriptor_of}

@@ -7,7 +7,7 @@ use lib.ListN.{length, take, drop}
 use Rattle.word.specs.Value.{bytes_of}
 use Rattle.word.proofs.Lists.{drop-take}
 use Rattle.word.proofs.Value.{length-bytes}
-use Rattle.word.proofs.Put.{put_front}
+use Rattle.word.proofs.Puts.{put_front}
 use Rattle.word.proofs.Place.{store-put}
 use Rattle.word.proofs.Shifts.{shift-there}
 use Rattle.positions.specs.Positions.{positions_of, up_to_of, push_of, retire_of}

@@ -9,15 +9,14 @@ use borrow.Author.Tests.{ltb-false}
 use lib.Dec.{ltb}
 use lib.ListN.{length, take, drop, length-take}
 use Rattle.word.proofs.Choices.{by-test}
-use Rattle.memory.specs.declared.Fetched.{Fetched}
-use Rattle.memory.specs.declared.Fetched.TheVariants.{Outside, Entry}
+use Rattle.std.specs.Prelude.{Option, None, Some, Ok, Err}
+use Rattle.memory.specs.declared.Descriptor.{Descriptor}
 use Rattle.memory.specs.Memory.{entry_at, descriptor_of}
 use Rattle.stream.specs.declared.Stream.{Stream}
 use Rattle.stream.specs.declared.Cyclic.{Cyclic}
 use Rattle.plan.specs.declared.End.{End}
 use Rattle.plan.specs.declared.End.TheVariants.{Inside, Plain, Flagged}
-use Rattle.plan.specs.declared.Plan.{Plan}
-use Rattle.plan.specs.declared.Plan.TheVariants.{Failed, Full, Move}
+use Rattle.plan.specs.Plans.{Plan, by_limit}
 use Rattle.plan.specs.Plans.{descriptor_at, end_of, placed_of, entry_of, fetched_of, plan_of}
 use Rattle.pieces.specs.Pieces.{EndOk, next_of, list_of, memory_of, pcm_of, State, state_of, Out, out_of, done_of, piece_of, onward, pieces_of}
 use Rattle.pieces.proofs.Plans.{PlanOk, plan-ok}
@@ -50,10 +49,10 @@ list-alike l l' s lvi n f Inside room p = p
 list-alike l l' s lvi n f Plain room p = p
 list-alike l l' s lvi n f Flagged room p = pending-push s.pending l l' p (s.submitted + n) room
 
-fetched-fraction : (g : Cyclic) (s : Stream) (f size left : ℕ) (x : Fetched) → fetched_of g (with_fraction s f) size left x ≡ fetched_of g s size left x
+fetched-fraction : (g : Cyclic) (s : Stream) (f size left : ℕ) (x : Option Descriptor) → fetched_of g (with_fraction s f) size left x ≡ fetched_of g s size left x
 unfolding entry_of placed_of end_of
-fetched-fraction g s f size left Outside = refl
-fetched-fraction g s f size left (Entry d) = refl
+fetched-fraction g s f size left None = refl
+fetched-fraction g s f size left (Some d) = refl
 
 module _ (P : ℕ → Type 0) (g : Cyclic) (listed : Listed P g) where
   pub plan-alike : (s : Stream) (f : ℕ) (m m' : List ℕ) (left : ℕ) → Agree P m m' → plan_of g s m left ≡ plan_of g (with_fraction s f) m' left
@@ -90,12 +89,13 @@ module _ (P : ℕ → Type 0) (g : Cyclic) (listed : Listed P g) where
         → let x = state_of s l m pcm done in let y = state_of (with_fraction s f) l' m' pcm' done in
         Alike (onward (done_of g x p).ok (done_of g x p) rest) (onward (done_of g y p).ok (done_of g y p) rest)
     unfolding done_of
-    planned rest Failed s l l' m m' pcm pcm' done p a same k go = stays false false s l l' m m' pcm pcm' done p a same
-    planned rest Full s l l' m m' pcm pcm' done p a same k go = stays false true s l l' m m' pcm pcm' done p a same
-    planned rest (Move at n end) s l l' m m' pcm pcm' done p a same k go =
+    planned rest (Err stop) s l l' m m' pcm pcm' done p a same k go = stays false (by_limit stop) s l l' m m' pcm pcm' done p a same
+    planned rest (Ok move) s l l' m m' pcm pcm' done p a same k go =
+        let n = move.n in
+        let end = move.end in
         rw (next-fraction s g.lvi n f end)
         (go (next_of s g.lvi n end) (list_of l s n end) (list_of l' (with_fraction s f) n end) _ _ _ _ (done + n) (list-alike l l' s g.lvi n f end k.room p)
-        (memory-alike g.capture m m' pcm pcm' at done n a same k.within) (pcm-alike g.capture m m' pcm pcm' at done n same))
+        (memory-alike g.capture m m' pcm pcm' move.at done n a same k.within) (pcm-alike g.capture m m' pcm pcm' move.at done n same))
 
     pub pieces-alike : (fuel : ℕ) (s : Stream) (l l' m m' pcm pcm' : List ℕ) (done : ℕ) → Pending s.pending l l' → Agree P m m' → (g.capture ≡ true → pcm ≡ pcm')
         → Alike (pieces_of fuel g count (state_of s l m pcm done)) (pieces_of fuel g count (state_of (with_fraction s f) l' m' pcm' done))

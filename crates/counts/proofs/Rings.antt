@@ -16,8 +16,7 @@ use Rattle.word.proofs.Choices.{by_cond}
 use Rattle.word.proofs.Place.{byte-elsewhere, length-store}
 use Rattle.memory.specs.Memory.{Access, read_of, write_of}
 use Rattle.codec.specs.declared.Codec.{Codec}
-use Rattle.codec.specs.declared.Reply.{Reply}
-use Rattle.codec.specs.declared.Reply.TheVariants.{Nothing, Value}
+use Rattle.std.specs.Prelude.{Option, None, Some}
 use Rattle.codec.specs.Codecs.{verb_of}
 use Rattle.registers.specs.Places.{size, corbbase, corbwp, corbrp, corbctl, corbsts, corbsize, rirbbase, rirbwp, rintcnt, rirbctl, rirbsts, rirbsize, byte_at, has, with_bits, keep_bits}
 use Rattle.rings.specs.declared.Link.{Link}
@@ -109,9 +108,9 @@ module _ (P : ℕ → Type 0) (base : List ℕ) where
       (written-alike x y _ _ w.0 w.1 a))
       (overrun-alike x y a)
 
-  answered-alike : (x y : Rings) (codec : Codec) (r : Reply) → RingsAlike x y → RingsAlike (answered_of x codec r) (answered_of y codec r)
-  answered-alike x y codec Nothing a = record { files = a.files; link = ap (λ (l : Link). link_of codec l.responses) a.link; memory = a.memory }
-  answered-alike x y codec (Value v) a =
+  answered-alike : (x y : Rings) (codec : Codec) (r : Option ℕ) → RingsAlike x y → RingsAlike (answered_of x codec r) (answered_of y codec r)
+  answered-alike x y codec None a = record { files = a.files; link = ap (λ (l : Link). link_of codec l.responses) a.link; memory = a.memory }
+  answered-alike x y codec (Some v) a =
       response-alike _ _ v 0 (record { files = a.files; link = ap (λ (l : Link). link_of codec l.responses) a.link; memory = a.memory })
 
   next-command : (x y : Rings) → RingsAlike x y → next_command x.regs ≡ next_command y.regs

@@ -18,7 +18,7 @@ use Rattle.word.proofs.Lists.{length_part}
 use Rattle.word.proofs.Parts.{part-other}
 use Rattle.word.proofs.Place.{word_byte}
 use Rattle.clock.specs.Frames.{accrue_of, whole_frames_of}
-use Rattle.format.specs.declared.Format.TheVariants.{Rate}
+use Rattle.std.specs.Prelude.{Some}
 use Rattle.format.specs.Format.{format_of}
 use Rattle.plan.specs.Plans.{ready_of}
 use Rattle.stream.specs.declared.Stream.{Stream}
@@ -93,7 +93,7 @@ pub record MachineAlike (P : ℕ → Type 0) (regs : List ℕ) (ss : ℕ → Str
 
 module _ (P : ℕ → Type 0) (regs : List ℕ) (ss : ℕ → Stream) (qs : ℕ → Queue) (nanos nanos' : ℕ)
     (windows : (j : ℕ) → j < streams → ready_of (cyclic_of regs j) ≡ true → Listed P (cyclic_of regs j))
-    (movable : (j : ℕ) → j < streams → (rate : ℕ) → format_of (word_at 2 (fmt j) regs) ≡ Rate rate
+    (movable : (j : ℕ) → j < streams → (rate : ℕ) → format_of (word_at 2 (fmt j) regs) ≡ Some rate
     → movable_by (captures j) (qs j).length (whole_frames_of (accrue_of rate nanos (ss j).fraction)) ≡ movable_by (captures j) (qs j).length (whole_frames_of (accrue_of rate nanos' (ss j).fraction))) where
   abbrev Alike : ℕ → Machine → Machine → Type 0
   Alike = MachineAlike P regs ss qs

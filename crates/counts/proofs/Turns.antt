@@ -14,8 +14,7 @@ use Rattle.word.proofs.Choices.{by-test, by_cond}
 use Rattle.word.proofs.Lists.{at_set}
 use Rattle.word.proofs.Place.{length-store}
 use Rattle.clock.specs.Frames.{accrue_of, whole_frames_of}
-use Rattle.format.specs.declared.Format.{Format}
-use Rattle.format.specs.declared.Format.TheVariants.{Unsupported, Rate}
+use Rattle.std.specs.Prelude.{Option, None, Some}
 use Rattle.format.specs.Format.{format_of}
 use Rattle.codec.specs.declared.Codec.{Codec}
 use Rattle.plan.specs.Plans.{ready_of}
@@ -25,8 +24,7 @@ use Rattle.queue.specs.declared.Queue.{Queue}
 use Rattle.queue.specs.Queues.{capacity, queue, closed, valid_queue}
 use Rattle.queue.proofs.Validity.{queue-conditions}
 use Rattle.host.specs.declared.Host.{Host}
-use Rattle.host.specs.declared.Opening.{Opening}
-use Rattle.host.specs.Hosts.{opening_of, open_of, fails_of, queue_at, with_queue}
+use Rattle.host.specs.Hosts.{Opening, opening_of, open_of, fails_of, queue_at, with_queue}
 use Rattle.registers.specs.Places.{size, ctl, sts, lpib, fmt, dplbase, byte_at, keep_bits}
 use Rattle.turn.specs.declared.Setup.{Setup}
 use Rattle.turn.specs.declared.Engine.{Engine}
@@ -155,7 +153,7 @@ module _ (regs regs' : List ℕ) (r : Agree Timeless regs regs') (i : ℕ) where
           rw (← engine-alike o.host s, ← setup-alike codec o.host.downstream capacity)
           (finished-alike P g false o.host _ _ (served-alike P g (omega arith) listed rate nanos nanos' e l l' part part' m m' frames listing a same))
 
-      pub turn-alike : ((rate : ℕ) → format_of (word_at 2 (fmt i) regs) ≡ Rate rate → Movable rate)
+      pub turn-alike : ((rate : ℕ) → format_of (word_at 2 (fmt i) regs) ≡ Some rate → Movable rate)
           → TurnAlike P (turn_of regs codec h microphone i nanos capacity s l part m) (turn_of regs' codec h microphone i nanos' capacity s l' part' m')
       unfolding turn_of
       turn-alike movable = rw (← format-alike) (go (format_of (word_at 2 (fmt i) regs)) movable)
@@ -169,6 +167,6 @@ module _ (regs regs' : List ℕ) (r : Agree Timeless regs regs') (i : ℕ) where
           opened rate true ok k = served rate ok k
           opened rate false ok k = stopped true o.host
 
-          go : (f : Format) → ((rate : ℕ) → f ≡ Rate rate → Movable rate) → TurnAlike P (formatted_of regs codec h microphone i nanos capacity s l part m f) (formatted_of regs' codec h microphone i nanos' capacity s l' part' m' f)
-          go Unsupported k = stopped false h
-          go (Rate rate) k = opened rate o.ok refl (k rate refl)
+          go : (f : Option ℕ) → ((rate : ℕ) → f ≡ Some rate → Movable rate) → TurnAlike P (formatted_of regs codec h microphone i nanos capacity s l part m f) (formatted_of regs' codec h microphone i nanos' capacity s l' part' m' f)
+          go None k = stopped false h
+          go (Some rate) k = opened rate o.ok refl (k rate refl)

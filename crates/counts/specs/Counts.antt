@@ -1,10 +1,8 @@
 -- What a run of `advance` can tell apart of two machines, as far as the streams' submitted counts go.
-use Rattle.std.specs.Prelude.{ℕ, ◌+◌, ◌-◌, ◌*◌, ◌/◌, ◌≤◌, ◌<◌, min, ◌≡◌, Bool, cond, List, length, take, get_or}
+use Rattle.std.specs.Prelude.{ℕ, ◌+◌, ◌-◌, ◌*◌, ◌/◌, ◌≤◌, ◌<◌, min, ◌≡◌, Bool, cond, List, length, take, get_or, Option, None, Some}
 use Rattle.word.specs.Place.{word_at}
 use Rattle.word.specs.Parts.{part_of}
 use Rattle.clock.specs.Frames.{accrue_of, whole_frames_of}
-use Rattle.format.specs.declared.Format.{Format}
-use Rattle.format.specs.declared.Format.TheVariants.{Unsupported, Rate}
 use Rattle.format.specs.Format.{format_of}
 use Rattle.stream.specs.Streams.{places, list_size}
 use Rattle.stream.specs.Box.{streams, captures}
@@ -18,9 +16,9 @@ use Rattle.device.specs.Machines.{Machine}
 
 -- ---- of elapsed time: the frames that a stream can move
 -- whole frames due after `nanos`: none where the format is not supported
-abbrev pub frames_by : ℕ → ℕ → Format → ℕ
-frames_by fraction nanos Unsupported = 0
-frames_by fraction nanos (Rate rate) = whole_frames_of (accrue_of rate nanos fraction)
+abbrev pub frames_by : ℕ → ℕ → Option ℕ → ℕ
+frames_by fraction nanos None = 0
+frames_by fraction nanos (Some rate) = whole_frames_of (accrue_of rate nanos fraction)
 
 -- of these a capture moves all, since a short read ends in silence, and a playback no more than its queue takes
 abbrev pub movable_by : Bool → ℕ → ℕ → ℕ

@@ -14,8 +14,7 @@ use Rattle.host.specs.declared.Host.{Host}
 use Rattle.host.specs.Hosts.{host, queue_at, valid_downstream, valid_of, check_of}
 use Rattle.host.proofs.Checks.{valid-queue}
 use Rattle.host.proofs.Validity.{with-queue-valid}
-use Rattle.driver.specs.declared.Set.{Set}
-use Rattle.driver.specs.Calls.{capture_stream, playback_stream, frame_check_of, Feed, feed_of, Pull, pull_of, playback_fails_of, capture_fails_of, downstream_of}
+use Rattle.driver.specs.Calls.{Set, capture_stream, playback_stream, frame_check_of, Feed, feed_of, Pull, pull_of, playback_fails_of, capture_fails_of, downstream_of}
 use Rattle.driver.proofs.Checks.{frames-checked}
 
 module _ (h : Host) (v : valid_of h ≡ true) where

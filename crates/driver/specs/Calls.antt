@@ -1,13 +1,13 @@
 -- The calls of the host's sound driver: feed, pull and the three settings (document 01, Host end, added), with the numbers 10, 9, 11 and 12, checked
 -- in that order; a refusal changes nothing (document 01, Numbers returned).
-use Rattle.std.specs.Prelude.{ℕ, ◌/◌, ◌%◌, Bool, cond, List, length, eqb}
+use Rattle.std.specs.Prelude.{ℕ, ◌/◌, ◌%◌, Bool, cond, List, length, eqb, Result, Ok, Err}
 use Rattle.stream.specs.Box.{streams}
 use Rattle.word.specs.Parts.{part_of, with_part}
 use Rattle.queue.specs.Queues.{capacity, Moved, Taken, put_of, take_into_of}
+use Rattle.refusal.specs.declared.Refusal.{Refusal}
+use Rattle.refusal.specs.Refusals.{number_of}
 use Rattle.host.specs.declared.Host.{Host}
 use Rattle.host.specs.Hosts.{host, valid_downstream, check_of, queue_at, with_queue}
-use Rattle.driver.specs.declared.Set.{Set}
-use Rattle.driver.specs.declared.Fed.{Fed}
 
 -- the stream that the host feeds, and the one that it pulls from
 abbrev pub capture_stream : ℕ
@@ -21,8 +21,18 @@ unfoldable pub frame_check_of : Host → ℕ → ℕ → ℕ
 frame_check_of h space n = cond (eqb (check_of h space) 0) (cond (eqb (n % 4) 0) 0 11) (check_of h space)
 
 -- a number, the frames moved, and the host end
+pub record Fed : Type 0 where
+  pub number : ℕ
+  pub frames : ℕ
+  pub host : Host
+
 abbrev pub fed_of : ℕ → ℕ → Host → Fed
 fed_of number frames h = record { number = number; frames = frames; host = h }
+
+-- the code's answer with the host end: 0 and the frames moved, or the number of the refusal and none
+abbrev pub fed_by : Result ℕ Refusal → Host → Fed
+fed_by (Ok frames) h = fed_of 0 frames h
+fed_by (Err refusal) h = fed_of (number_of refusal) 0 h
 
 -- what feed leaves: that, and the lent queue space
 pub record Feed : Type 0 where
@@ -65,6 +75,10 @@ pull_of h space into =
     (pull_answer (fed_of number 0 h) space into)
 
 -- what a setting leaves: the number and the host end
+pub record Set : Type 0 where
+  pub number : ℕ
+  pub host : Host
+
 abbrev pub setting_of : ℕ → Host → Set
 setting_of number h = record { number = number; host = h }
 

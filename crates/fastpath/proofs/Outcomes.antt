@@ -1,7 +1,7 @@
 -- The ways out of a try: left alone, or all of the call. Assumes nothing.
 use Prim.Native.Nat.{ℕ, ◌+◌, ◌*◌, ◌^◌, ◌≤◌, ◌<◌}
 use mathlib.Core.Path.{◌≡◌, refl, sym, ap, ◌∙◌}
-use mathlib.Core.Bool.{true, false}
+use mathlib.Core.Bool.{true, false, true≢false}
 use mathlib.Core.List.{List}
 use mathlib.Core.Logic.{◌≢◌}
 use native.Mathlib.Omega.{arith}
@@ -20,7 +20,11 @@ use Rattle.write.proofs.Checked.{few}
 use Rattle.hda.specs.Calls.{configured, config_write_step, config_write_of}
 use Rattle.record.specs.Loads.{block_at, link_at, device_at, Holds}
 use Rattle.in_place.specs.Ends.{end_of}
-use Rattle.fastpath.specs.declared.Quick.{Quick}
+use Rattle.std.specs.Prelude.{⊤, Result, Ok, Err}
+use Rattle.std.specs.Result.{is_err}
+use Rattle.refusal.specs.declared.Refusal.{Refusal}
+use Rattle.refusal.specs.Refusals.{outcome_of, number_of}
+use Rattle.refusal.proofs.Laws.{number-nonzero}
 use Rattle.fastpath.specs.Quick.{left_alone, Tried, tried, carried_out, quiet_of, write_by, config_write_by, aligned_of, concluded_of}
 use Rattle.fastpath.proofs.Quiet.{quiet-tail}
 
@@ -29,20 +33,29 @@ tailed : (x : Machine) (d : Hda) → concluded_of d x.memory ≡ carried_out (ta
 unfolding concluded_of end_of finish_of answer_of
 tailed x d = refl
 
+-- the outcome of a check by what the code asks of it
+pub refused : (o : Result ⊤ Refusal) → is_err o ≡ true → outcome_of o ≢ 0
+refused (Ok u) e = absurd (true≢false (sym e))
+refused (Err r) e = number-nonzero r (number_of r) refl
+
+pub passed : (o : Result ⊤ Refusal) → is_err o ≡ false → outcome_of o ≡ 0
+passed (Ok u) e = refl
+passed (Err r) e = absurd (true≢false e)
+
 module _ (device lists queues memory : List ℕ) (host : Host) where
   abbrev at : Machine
   at = machine (device_at device) host lists queues memory
 
   module _ (n : ℕ) (e : n ≡ check_machine at) where
     module _ (offset : ℕ) (bytes : List ℕ) where
-      pub write-refused : n ≢ 0 → (q : Quick) → q ≡ left_alone → tried q device memory ≡ write_by offset bytes device at
+      pub write-refused : n ≢ 0 → tried left_alone device memory ≡ write_by offset bytes device at
       unfolding write_by
-      write-refused z q eq = rw (eq, ← e, ne_eqb n 0 z)
+      write-refused z = rw (← e, ne_eqb n 0 z)
 
       -- a byte may reach the codec
-      pub write-reaching : n ≡ 0 → plain_write offset (length bytes) ≡ false → (q : Quick) → q ≡ left_alone → tried q device memory ≡ write_by offset bytes device at
+      pub write-reaching : n ≡ 0 → plain_write offset (length bytes) ≡ false → tried left_alone device memory ≡ write_by offset bytes device at
       unfolding write_by
-      write-reaching z t q eq = rw (eq, ← e, eq-eqb n 0 z, t)
+      write-reaching z t = rw (← e, eq-eqb n 0 z, t)
 
       -- `old` is the record's file, `regs` what the write's bytes left of it
       module _ (z : n ≡ 0) (plain : plain_write offset (length bytes) ≡ true) (old regs : List ℕ) (eo : old ≡ block_at 262 device)
@@ -59,9 +72,9 @@ module _ (device lists queues memory : List ℕ) (host : Host) where
         unfolding device_at
         same-quiet = rw (eo, written)
 
-        pub write-left : quiet_of old regs ≡ false → (q : Quick) → q ≡ left_alone → tried q device memory ≡ write_by offset bytes device at
+        pub write-left : quiet_of old regs ≡ false → tried left_alone device memory ≡ write_by offset bytes device at
         unfolding write_by
-        write-left t q eq = rw (eq, ← e, eq-eqb n 0 z, plain, ← same-quiet, t)
+        write-left t = rw (← e, eq-eqb n 0 z, plain, ← same-quiet, t)
 
         -- the registers put into the record
         module _ (device₁ : List ℕ) (held : Holds device₁ (with_regs (device_at device) regs)) where
@@ -81,14 +94,14 @@ module _ (device lists queues memory : List ℕ) (host : Host) where
               rw (← e, eq-eqb n 0 z, plain, quiet, quiet-tail (device_at device).regs (ports d host) quiet) (ey ∙ ap (λ (x : Hda). concluded_of x memory) put ∙ tailed at d)
 
     module _ (register offset : ℕ) (bytes : List ℕ) where
-      pub config-refused : n ≢ 0 → (q : Quick) → q ≡ left_alone → tried q device memory ≡ config_write_by register offset bytes device at
+      pub config-refused : n ≢ 0 → tried left_alone device memory ≡ config_write_by register offset bytes device at
       unfolding config_write_by
-      config-refused z q eq = rw (eq, ← e, ne_eqb n 0 z)
+      config-refused z = rw (← e, ne_eqb n 0 z)
 
       module _ (z : n ≡ 0) where
-        pub config-past : 2 ^ 64 ≤ 4 * register + offset → (q : Quick) → q ≡ left_alone → tried q device memory ≡ config_write_by register offset bytes device at
+        pub config-past : 2 ^ 64 ≤ 4 * register + offset → tried left_alone device memory ≡ config_write_by register offset bytes device at
         unfolding config_write_by
-        config-past h q eq = rw (eq, ← e, eq-eqb n 0 z, le-ltb (4 * register + offset) (2 ^ 64) h)
+        config-past h = rw (← e, eq-eqb n 0 z, le-ltb (4 * register + offset) (2 ^ 64) h)
 
         -- the configuration written in the record
         module _ (config device₁ : List ℕ) (ec : config ≡ pci.write_of (block_at 6 device) (4 * register + offset) bytes) (held : Holds device₁ (with_config (device_at device) config)) where

@@ -1,37 +1,33 @@
 -- Which writes take the fast path, and what they leave: what the calls' own definitions say (crates write and hda).
-use Rattle.std.specs.Prelude.{ℕ, zero, suc, ◌+◌, ◌*◌, ◌^◌, Bool, true, false, cond, not, ◌&&◌, List, length, eqb, ltb}
+use Rattle.std.specs.Prelude.{ℕ, zero, suc, ◌+◌, ◌*◌, ◌^◌, Bool, true, cond, not, ◌&&◌, List, length, eqb, ltb, Option, None, Some}
 use Rattle.stream.specs.Box.{streams}
 use Rattle.registers.specs.Places.{gctl, ctl, byte_at, has}
 use Rattle.registers.specs.Writes.{align_of}
 use Rattle.bus.specs.Bus.{Front, front_of, plain_write}
-use Rattle.pci.specs.declared.Msi.{Msi}
-use Rattle.pci.specs.declared.Msi.TheVariants.{None}
 use Rattle.device.specs.declared.Hda.{Hda}
 use Rattle.device.specs.Machines.{Machine, Done, check_machine, Commanded, commanded_of}
 use Rattle.write.specs.Writes.{written_of, write_of}
 use Rattle.hda.specs.Calls.{config_write_of}
 use Rattle.record.specs.Devices.{device_bytes}
-use Rattle.in_place.specs.Ends.{End, end_of}
-use Rattle.fastpath.specs.declared.Quick.{Quick}
+use Rattle.in_place.specs.Ends.{End, ended, end_of}
+use Rattle.in_place.specs.declared.Ended.{Ended}
 
-abbrev pub quick : Bool → Bool → Msi → Quick
-quick done level msi = record { done = done; level = level; msi = msi }
+-- a write that is left to the calls on the whole device
+abbrev pub left_alone : Option Ended
+left_alone = None
 
-abbrev pub left_alone : Quick
-left_alone = quick false false None
-
--- what a try leaves: its answer, the device's record and guest memory
+-- what a try leaves: the INTx level and the message of a write that was carried out, the device's record and guest memory
 pub record Tried : Type 0 where
-  pub quick : Quick
+  pub quick : Option Ended
   pub device : List ℕ
   pub memory : List ℕ
 
-abbrev pub tried : Quick → List ℕ → List ℕ → Tried
+abbrev pub tried : Option Ended → List ℕ → List ℕ → Tried
 tried q device memory = record { quick = q; device = device; memory = memory }
 
 -- all of a call, where host end and lent spaces stay
 abbrev pub carried_out : Done → Tried
-carried_out z = tried (quick true z.answer.level z.answer.msi) (device_bytes z.answer.hda) z.memory
+carried_out z = tried (Some (ended z.answer.level z.answer.msi)) (device_bytes z.answer.hda) z.memory
 
 -- ---- which writes: the controller's reset bit stays, nothing is flushed, and every stream is not in reset and goes on running or resting
 abbrev pub same : Bool → Bool → Bool
@@ -63,7 +59,7 @@ aligned_of x = front_of (align_of x.regs) x.link
 
 -- the commands and the interrupt
 abbrev pub ended_by : List ℕ → End → Tried
-ended_by memory e = tried (quick true e.ended.level e.ended.msi) (device_bytes e.hda) memory
+ended_by memory e = tried (Some (ended e.ended.level e.ended.msi)) (device_bytes e.hda) memory
 
 abbrev pub commanded_by : Commanded → Tried
 commanded_by c = ended_by c.memory (end_of c.hda)

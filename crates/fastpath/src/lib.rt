@@ -8,32 +8,13 @@ ghost use Rattle.bus.specs.Bus.{front_of, plain_write, bytes_of};
 ghost use Rattle.device.specs.Machines.{machine};
 ghost use Rattle.record.specs.Layout.{device_size};
 ghost use Rattle.record.specs.Loads.{link_at, device_at, is_device};
-ghost use Rattle.fastpath.specs.Quick.{stays_of, stay_from, quiet_of, left_alone, tried, concluded_of, aligned_of, write_by, config_write_by};
+ghost use Rattle.fastpath.specs.Quick.{stays_of, stay_from, quiet_of, tried, concluded_of, aligned_of, write_by, config_write_by};
 
 use host::Host;
-use pci::Msi;
+use in_place::Ended;
 use registers::Registers;
 use rings::Link;
 use stream::STREAMS;
-
-// Whether a write was carried out, and then the INTx level that it leaves and its message.
-#[derive(Clone, Copy)]
-pub struct Quick {
-    pub msi: Msi,
-    pub done: bool,
-    pub level: bool,
-}
-
-// A write that is left to the calls on the whole device.
-fn left_alone() -> Quick
-    ensures { result ≡ left_alone }
-{
-    Quick {
-        done: false,
-        level: false,
-        msi: Msi::None,
-    }
-}
 
 // Whether a stream goes on as it did, by its control byte before and after a write.
 fn stays(before: u8, after: u8) -> bool
@@ -42,34 +23,28 @@ fn stays(before: u8, after: u8) -> bool
     let held = after & 1 != 0;
     let ran = before & 2 != 0;
     let runs = after & 2 != 0;
-    !held & (!(ran & !runs) & !(!ran & runs))
+    !held && ran == runs
 }
 
 // Whether every stream does.
 fn streams_stay(old: &Registers, regs: &Registers) -> bool
     ensures { result ≡ stay_from streams 0 old.now regs.now }
 {
-    let count = STREAMS;
-    let mut index = 0;
-    while index < count {
+    (0..STREAMS).all(|index| {
         let at = registers::STREAM_BASE + registers::STREAM_SIZE * index;
-        if !stays(old[at], regs[at]) {
-            return false;
-        }
-        index += 1;
-    }
-    true
+        stays(old[at], regs[at])
+    })
 }
 
 // Whether a write that left `regs` of `old` resets, flushes, starts and stops nothing.
+#[tactic(auto, unfolding(crate::specs::Quick::quiet_of))]
 fn is_quiet(old: &Registers, regs: &Registers) -> bool
     ensures { result ≡ quiet_of old.now regs.now }
 {
     let before = old[registers::GCTL] & 1 != 0;
     let after = regs[registers::GCTL] & 1 != 0;
     let flush = regs[registers::GCTL] & 2 != 0;
-    let same = !(before & !after) & !(!before & after);
-    same & (!flush & streams_stay(old, regs))
+    before == after && !flush && streams_stay(old, regs)
 }
 
 // The bytes of a write in order, and the alignment after them.
@@ -82,18 +57,12 @@ fn written(regs: &mut Registers, offset: u64, bytes: &[u8])
 }
 
 // The commands and the interrupt.
-fn conclude(device: &mut [u8], memory: &mut [u8]) -> Quick
+fn conclude(device: &mut [u8], memory: &mut [u8]) -> Option<Ended>
     requires { (length device.old ≡ device_size) × (is_device device.old ≡ true) × ((link_at device.old).responses ≤ 255) }
     ensures { tried result device.new memory.new ≡ concluded_of (device_at device.old) memory.old }
 {
     in_place::commands(device, memory);
-    let ended = in_place::finish(device);
-    let msi = ended.msi;
-    Quick {
-        done: true,
-        level: ended.level,
-        msi: msi,
-    }
+    Some(in_place::finish(device))
 }
 
 // A guest's write to the registers from `offset` on.
@@ -105,21 +74,21 @@ pub fn write(
     memory: &mut [u8],
     offset: u64,
     bytes: &[u8],
-) -> Quick
+) -> Option<Ended>
     requires { (length device.old ≡ device_size) × (is_device device.old ≡ true) }
     ensures { tried result device.new memory.new ≡ write_by offset bytes.now device.old (machine (device_at device.old) host lists.now queues.now memory.old) }
 {
-    if read::check(device, host, lists, queues.len()) != 0 {
-        return left_alone();
+    if read::check(device, host, lists, queues.len()).is_err() {
+        return None;
     }
     if !bus::is_plain_write(offset, bytes.len()) {
-        return left_alone();
+        return None;
     }
     let old = record::load_block(device, record::REGISTERS);
     let mut regs = old;
     written(&mut regs, offset, bytes);
     if !is_quiet(&old, &regs) {
-        return left_alone();
+        return None;
     }
     record::replace_registers(device, &regs);
     conclude(device, memory)
@@ -135,24 +104,16 @@ pub fn config_write(
     register: u64,
     offset: u64,
     bytes: &[u8],
-) -> Quick
+) -> Option<Ended>
     requires { (length device.old ≡ device_size) × (is_device device.old ≡ true) }
     ensures { tried result device.new memory.new ≡ config_write_by register offset bytes.now device.old (machine (device_at device.old) host lists.now queues.now memory.old) }
 {
-    if read::check(device, host, lists, queues.len()) != 0 {
-        return left_alone();
+    if read::check(device, host, lists, queues.len()).is_err() {
+        return None;
     }
-    // An address past 64 bits.
-    if register > 0x3fff_ffff_ffff_ffff {
-        return left_alone();
-    }
-    if offset > 0xffff_ffff_ffff_ffff - 4 * register {
-        return left_alone();
-    }
-    configuration::write_in(
-        &mut device[record::CONFIG..record::REGISTERS],
-        4 * register + offset,
-        bytes,
-    );
+    let Some(start) = configuration::address(register, offset) else {
+        return None;
+    };
+    configuration::write(&mut device[record::CONFIG..record::REGISTERS], start, bytes);
     conclude(device, memory)
 }

@@ -2,17 +2,14 @@
 -- Assumes nothing.
 use mathlib.Core.Path.{◌≡◌, refl, sym, ◌∙◌}
 use mathlib.Core.Bool.{Bool, true, false, cond, ◌&&◌, beq, true≢false}
-use mathlib.Core.Option.{none, some}
-use Prim.Native.Nat.{ℕ, ◌+◌, ◌*◌, ◌%◌, ◌<◌, ◌≤◌}
-use native.Mathlib.Nat.{mul-le-mul}
+use Prim.Native.Nat.{ℕ, ◌+◌, ◌*◌, ◌%◌, ◌<◌}
 use native.Mathlib.Numerals.{add-one}
 use native.Mathlib.Omega.{arith}
-use lib.Dec.{T, eqb, ltb, lit≤, eqb→eq, eqb-suc-suc}
+use lib.Dec.{T, eqb, ltb, eqb→eq, eqb-suc-suc}
 use lib.ListN.{length, get_or}
 use borrow.Author.Tests.{ltb-true, eqb-true}
+use Rattle.std.specs.Prelude.{Option, None, Some}
 use Rattle.word.proofs.Choices.{left, right}
-use Rattle.format.specs.declared.Format.{Format}
-use Rattle.format.specs.declared.Format.TheVariants.{Unsupported}
 use Rattle.format.specs.Hda.{Pcm, pcm_of, type_field, base_field, mult_field, div_field, reserved_field, bits_field, chan_field, base_rate, multipliers, sample_bits}
 use Rattle.format.specs.Format.{rated_of, restricted, format_of}
 use Rattle.format.proofs.Computed.{below}
@@ -37,14 +34,6 @@ times code h = eqb→eq _ _ (below (λ m. eqb (get_or multipliers m 0) (m + 1)) 
 stereo : (code : ℕ) → eqb (code + 1) 2 ≡ eqb code 1
 stereo code = rw add-one (eqb-suc-suc code 1)
 
-base-bound : (b : Bool) → cond b 48_000 44_100 ≤ 48_000
-base-bound true = lit≤ tt
-base-bound false = lit≤ tt
-
--- the numerator is at most 48,000 times 8, whatever the word
-pub numerator-bound : (w : ℕ) → base_rate (base_field w) * (mult_field w + 1) ≤ 48_000 * 8
-numerator-bound w = let eight : mult_field w + 1 ≤ 8 = omega arith in mul-le-mul (base-bound (eqb (base_field w) 0)) eight
-
 -- ---- the word
 
 -- 16-bit stereo PCM with nothing reserved, by the fields
@@ -54,15 +43,15 @@ stereo_fields w =
 
 -- `restricted` as one test
 one-test : (x y : Bool) (p : Pcm) →
-    restricted (cond (x && y) (some p) none)
-    ≡ cond (x && (y && eqb p.bits 16) && eqb p.channels 2) (rated_of p.numerator p.divisor) Unsupported
+    restricted (cond (x && y) (Some p) None)
+    ≡ cond (x && (y && eqb p.bits 16) && eqb p.channels 2) (rated_of p.numerator p.divisor) None
 one-test true true p = refl
 one-test true false p = refl
 one-test false y p = refl
 
 -- what is chosen under a test may use a part of the test
-guarded : (t r m b c : Bool) (f g : Format) → (m ≡ true → f ≡ g) →
-    cond (t && r && m && b && c) f Unsupported ≡ cond (t && r && m && b && c) g Unsupported
+guarded : (t r m b c : Bool) (f g : Option ℕ) → (m ≡ true → f ≡ g) →
+    cond (t && r && m && b && c) f None ≡ cond (t && r && m && b && c) g None
 guarded true true true true true f g e = e refl
 guarded true true true true false f g e = refl
 guarded true true true false c f g e = refl
@@ -72,7 +61,7 @@ guarded false r m b c f g e = refl
 
 -- the word by its fields: what the code decides
 by-fields : (w : ℕ) →
-    format_of w ≡ cond (stereo_fields w) (rated_of (base_rate (base_field w) * (mult_field w + 1)) (div_field w + 1)) Unsupported
+    format_of w ≡ cond (stereo_fields w) (rated_of (base_rate (base_field w) * (mult_field w + 1)) (div_field w + 1)) None
 unfolding format_of pcm_of
 by-fields w =
     one-test (eqb (type_field w) 0 && eqb (reserved_field w) 0 && ltb (mult_field w) 4) (ltb (bits_field w) 5) _
@@ -80,7 +69,7 @@ by-fields w =
     (guarded (eqb (type_field w) 0) (eqb (reserved_field w) 0) (ltb (mult_field w) 4) (eqb (bits_field w) 1) (eqb (chan_field w) 1) _ _
     (λ h. rw (times (mult_field w) (ltb-true _ _ h))))
 
-pub refused : (w : ℕ) → stereo_fields w ≡ false → Unsupported ≡ format_of w
+pub refused : (w : ℕ) → stereo_fields w ≡ false → None ≡ format_of w
 refused w h = rw (by-fields, h)
 
 pub rated : (w : ℕ) → stereo_fields w ≡ true → format_of w ≡ rated_of (base_rate (base_field w) * (mult_field w + 1)) (div_field w + 1)

@@ -1,7 +1,5 @@
 -- Document 01's table of the accepted words with the two of T-01, each with its rate: the whole output of the program `formats`.
-use Rattle.std.specs.Prelude.{ℕ, ◌<◌, ◌≡◌, cond, List, [], ◌∷◌, eqb}
-use Rattle.format.specs.declared.Format.{Format}
-use Rattle.format.specs.declared.Format.TheVariants.{Unsupported, Rate}
+use Rattle.std.specs.Prelude.{ℕ, ◌<◌, ◌≡◌, cond, List, [], ◌∷◌, eqb, Option, None, Some}
 use Rattle.format.specs.Format.{format_of}
 
 abbrev pub accepted_words : List (ℕ × ℕ)
@@ -21,10 +19,10 @@ accepted_words =
     ∷ []
 
 -- the rate beside a word in such a table; a word that is not there is unsupported
-abbrev pub listed : ℕ → List (ℕ × ℕ) → Format
-listed w [] = Unsupported
-listed w (e ∷ es) = cond (eqb w e.0) (Rate e.1) (listed w es)
+abbrev pub listed : ℕ → List (ℕ × ℕ) → Option ℕ
+listed w [] = None
+listed w (e ∷ es) = cond (eqb w e.0) (Some e.1) (listed w es)
 
 -- a rate that some word of 16 bits has for this device
 abbrev pub Accepted : ℕ → Type 0
-Accepted r = (w : ℕ) × (w < 65536) × (format_of w ≡ Rate r)
+Accepted r = (w : ℕ) × (w < 65536) × (format_of w ≡ Some r)

@@ -1,7 +1,6 @@
 -- The stream format word of HDA 1.0a, as the table of section 3.7.1 has it: the fields, what their codes stand for, and the PCM format that a word describes.
 -- Nothing here is of this device, which takes few of these formats (specs/Format.antt).
-use Rattle.std.specs.Prelude.{ℕ, ◌+◌, ◌*◌, ◌/◌, ◌%◌, ◌^◌, Bool, cond, ◌&&◌, List, [], ◌∷◌, eqb, ltb, length, get_or}
-use Rattle.std.proofs.Math.Option.{Option, none, some}
+use Rattle.std.specs.Prelude.{ℕ, ◌+◌, ◌*◌, ◌/◌, ◌%◌, ◌^◌, Bool, cond, ◌&&◌, List, [], ◌∷◌, eqb, ltb, length, get_or, Option, None, Some}
 
 -- ---- the fields of the word, 16 bits
 
@@ -76,11 +75,11 @@ defined w =
 unfoldable pub pcm_of : ℕ → Option Pcm
 pcm_of w =
     cond (defined w)
-    (some
+    (Some
     (record {
       numerator = base_rate (base_field w) * get_or multipliers (mult_field w) 0;
       divisor = divisor_of (div_field w);
       bits = get_or sample_bits (bits_field w) 0;
       channels = channels_of (chan_field w);
     }))
-    none
+    None

@@ -5,15 +5,8 @@ ghost use Rattle.std.specs.Prelude.{◌≡◌};
 ghost use Rattle.format.specs.Hda.{base_field, base_rate};
 ghost use Rattle.format.specs.Format.{rates, among, format_of};
 
-// What a format word is to this device: 16-bit stereo at so many frames a second, or nothing that it takes.
-#[derive(Clone, Copy)]
-pub enum Format {
-    Unsupported,
-    Rate(u32),
-}
-
-// The format that a word describes (the Rust's `Hda::format`).
-pub fn decode(word: u16) -> Format
+// The rate of a word that stands for 16-bit stereo at a rate of the box; `None` for every other word (the Rust's `Hda::format`).
+pub fn decode(word: u16) -> Option<u32>
     ensures { result ≡ format_of word }
 {
     let mult = word / 0x800 % 8;
@@ -22,22 +15,17 @@ pub fn decode(word: u16) -> Format
     let chan = word % 0x10;
     // TYPE and the reserved bit are clear, MULT is no reserved code, and the other two say 16-bit stereo.
     let stereo16 = (word / 0x8000 % 2 == 0)
-        & (word / 0x80 % 2 == 0)
-        & (mult < 4)
-        & (bits == 1)
-        & (chan == 1);
+        && (word / 0x80 % 2 == 0)
+        && (mult < 4)
+        && (bits == 1)
+        && (chan == 1);
     if !stereo16 {
-        return Format::Unsupported;
+        return None;
     }
-    let numerator = base_rate(word) * (mult as u32 + 1);
-    let divisor = div as u32 + 1;
+    let numerator = base_rate(word) * (u32::from(mult) + 1);
+    let divisor = u32::from(div) + 1;
     let rate = numerator / divisor;
-    let taken = (numerator % divisor == 0) & supported(rate);
-    if taken {
-        Format::Rate(rate)
-    } else {
-        Format::Unsupported
-    }
+    (numerator % divisor == 0 && supported(rate)).then_some(rate)
 }
 
 // The rate that bit 14 chooses.
@@ -55,5 +43,5 @@ fn base_rate(word: u16) -> u32
 pub fn supported(rate: u32) -> bool
     ensures { result ≡ among rate rates }
 {
-    (rate == 44_100) | (rate == 48_000) | (rate == 88_200) | (rate == 96_000)
+    matches!(rate, 44_100 | 48_000 | 88_200 | 96_000)
 }

@@ -1,8 +1,6 @@
 -- The program's output (document 01, Format word): for each word that the device takes, rising, a line with the word as four hexadecimal digits, a space, and
 -- its rate in decimal. In ASCII.
-use Rattle.std.specs.Prelude.{ℕ, zero, suc, ◌+◌, ◌/◌, ◌%◌, cond, List, [], ◌∷◌, ◌++◌, ltb}
-use Rattle.format.specs.declared.Format.{Format}
-use Rattle.format.specs.declared.Format.TheVariants.{Unsupported, Rate}
+use Rattle.std.specs.Prelude.{ℕ, zero, suc, ◌+◌, ◌/◌, ◌%◌, cond, List, [], ◌∷◌, ◌++◌, ltb, Option, None, Some}
 use Rattle.format.specs.Format.{format_of}
 
 -- the digit that stands for a number below 16, in lower case
@@ -26,9 +24,9 @@ line_of word rate =
     ∷ []
 
 -- a word's line, where the device takes the word
-abbrev pub shown_as : ℕ → Format → List ℕ
-shown_as word Unsupported = []
-shown_as word (Rate rate) = line_of word rate
+abbrev pub shown_as : ℕ → Option ℕ → List ℕ
+shown_as word None = []
+shown_as word (Some rate) = line_of word rate
 
 unfoldable pub shown_of : ℕ → List ℕ
 shown_of word = shown_as word (format_of word)

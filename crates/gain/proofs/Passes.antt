@@ -5,18 +5,18 @@ use mathlib.Core.Bool.{Bool, true, false, cond, ◌&&◌, true≢false, and-eq-t
 use mathlib.Core.List.{List, [], ◌∷◌, ◌++◌}
 use Prim.Native.Nat.{ℕ, zero, suc, ◌+◌, ◌-◌, ◌*◌, ◌/◌, ◌%◌, ◌≤◌, ◌<◌, suc-le-suc}
 use native.Mathlib.Omega.{arith}
-use native.Mathlib.Numerals.{add-one}
 use native.Mathlib.Nat.{not-suc-le-zero, le_of_suc-le-suc, zero-lt-suc, zero-add}
 use borrow.Author.Tests.{ltb-true, ltb-false, lt-ltb, le-ltb}
 use lib.Dec.{ltb, eqb}
-use lib.ListN.{length, get_or, set, take, length-set}
-use lib.Seq.{get_or-set_same, get_or-set_other, take_all, take-length}
+use lib.ListN.{length, get_or, set, take, drop, replicate, length-set, get_or-append, length-replicate}
+use lib.Seq.{get_or-set_same, get_or-set_other, take_all, get_or-take, length-take-le}
+use Rattle.std.proofs.lemmas.List.{get_or-replicate, get_or-append_right, get_or-drop}
 use Rattle.word.specs.Value.{Bytes}
 use Rattle.word.proofs.Choices.{by-test}
 use Rattle.gain.specs.declared.Gain.{Gain}
 use Rattle.gain.specs.declared.Gain.TheVariants.{Silence, Unity, Factor}
 use Rattle.gain.specs.Gain.{scaled, scaled16, amplified_of, two_steps_of, sample_at, side_at, half_of, amplified_byte, pass_from, one_pass_of}
-use Rattle.gain.specs.Fast.{is_silence, is_unity, AmplifiedTo, ZerosTo, SameFrom, ScaledSide, FrameAt, Scattered, sample_scaled}
+use Rattle.gain.specs.Fast.{is_silence, is_unity, AmplifiedTo, ZerosTo, SameFrom, EachScaled, ScaledWords, ScaledSide, Scattered, sample_scaled}
 use Rattle.gain.proofs.Laws.{amplified-length, amplified-unity}
 
 -- ---- one byte
@@ -150,73 +150,6 @@ module _ (g h : Gain) (xs : List ℕ) where
       let f = amplified-length g h xs in
       front (amplified_of g h xs) ys (omega arith) (λ m l. a m l ∙ sym (byte-is g h xs m)) ∙ sym (one-pass-is-two-steps (length ys) k)
 
--- ---- a list filled from the front
-fill : (a : List ℕ) (k v : ℕ) (f : ℕ → ℕ) → k < length a → ((n : ℕ) → n < k → get_or a n 0 ≡ f n) → v ≡ f k → (n : ℕ) → n < suc k → get_or (set a k v) n 0 ≡ f n
-fill [] k v f h p e n l = absurd (not-suc-le-zero h)
-fill (x ∷ a) zero v f h p e zero l = e
-fill (x ∷ a) zero v f h p e (suc n) l = absurd (not-suc-le-zero (le_of_suc-le-suc l))
-fill (x ∷ a) (suc k) v f h p e zero l = p 0 (zero-lt-suc k)
-fill (x ∷ a) (suc k) v f h p e (suc n) l = fill a k v (λ m. f (suc m)) (le_of_suc-le-suc h) (λ m q. p (suc m) (suc-le-suc q)) e n (le_of_suc-le-suc l)
-
-pub filled : (a : List ℕ) (k v : ℕ) (f : ℕ → ℕ) → k < length a → ((n : ℕ) → n < k → get_or a n 0 ≡ f n) → v ≡ f k → (n : ℕ) → n < k + 1 → get_or (set a k v) n 0 ≡ f n
-filled a k v f h p e n l = fill a k v f h p e n (subst (λ (j : ℕ). n < j) (add-one k) l)
-
--- what is behind the place that is filled stays
-pub behind : (xs ys : List ℕ) (k v : ℕ) → SameFrom k xs ys → SameFrom (k + 1) xs (set ys k v)
-behind xs ys k v s m l = get_or-set_other ys k m v 0 (λ e. omega arith) ∙ s m (omega arith)
-
--- ---- a frame put into a buffer
-abbrev frame_put : List ℕ → ℕ → ℕ → ℕ → List ℕ
-frame_put xs at l r = set (set (set (set xs at (l % 256)) (at + 1) (l / 256)) (at + 2) (r % 256)) (at + 3) (r / 256)
-
-elsewhere : (xs : List ℕ) (at l r m : ℕ) → (m ≡ at → ⊥) → (m ≡ at + 1 → ⊥) → (m ≡ at + 2 → ⊥) → (m ≡ at + 3 → ⊥) → get_or (frame_put xs at l r) m 0 ≡ get_or xs m 0
-elsewhere xs at l r m a b c d =
-    get_or-set_other (set (set (set xs at (l % 256)) (at + 1) (l / 256)) (at + 2) (r % 256)) (at + 3) m (r / 256) 0 d
-    ∙ get_or-set_other (set (set xs at (l % 256)) (at + 1) (l / 256)) (at + 2) m (r % 256) 0 c
-    ∙ get_or-set_other (set xs at (l % 256)) (at + 1) m (l / 256) 0 b
-    ∙ get_or-set_other xs at m (l % 256) 0 a
-
-put-there : (xs : List ℕ) (at l r : ℕ) → at + 3 < length xs → FrameAt (frame_put xs at l r) at l r
-put-there xs at l r k =
-    let ys = set xs at (l % 256) in
-    let zs = set ys (at + 1) (l / 256) in
-    let ws = set zs (at + 2) (r % 256) in
-    let y : length ys ≡ length xs = length-set xs at (l % 256) in
-    let z : length zs ≡ length ys = length-set ys (at + 1) (l / 256) in
-    let w : length ws ≡ length zs = length-set zs (at + 2) (r % 256) in (
-      get_or-set_other ws (at + 3) at (r / 256) 0 (λ e. omega arith) ∙ get_or-set_other zs (at + 2) at (r % 256) 0 (λ e. omega arith) ∙ get_or-set_other ys (at + 1) at (l / 256) 0 (λ e. omega arith)
-          ∙ get_or-set_same xs at (l % 256) 0 (omega arith),
-      get_or-set_other ws (at + 3) (at + 1) (r / 256) 0 (λ e. omega arith) ∙ get_or-set_other zs (at + 2) (at + 1) (r % 256) 0 (λ e. omega arith) ∙ get_or-set_same ys (at + 1) (l / 256) 0 (omega arith),
-      get_or-set_other ws (at + 3) (at + 2) (r / 256) 0 (λ e. omega arith) ∙ get_or-set_same zs (at + 2) (r % 256) 0 (omega arith),
-      get_or-set_same ws (at + 3) (r / 256) 0 (omega arith),
-    )
-
-pub one_more : (n : ℕ) (ls rs : List ℕ) (at : ℕ) (xs ys : List ℕ) → at + 4 * n + 3 < length ys → Scattered n ls rs at xs ys
-    → Scattered (n + 1) ls rs at xs (frame_put ys (at + 4 * n) (get_or ls n 0) (get_or rs n 0))
-one_more n ls rs at xs ys k s = (
-  (λ j l. by-test (ltb j n) (λ t. earlier j (ltb-true j n t)) (λ t. let u = ltb-false j n t in own j (omega arith))),
-  (λ m l. away m (λ e. omega arith) (λ e. omega arith) (λ e. omega arith) (λ e. omega arith) ∙ s.1 m l),
-  (λ m l. away m (λ e. omega arith) (λ e. omega arith) (λ e. omega arith) (λ e. omega arith) ∙ s.2 m (omega arith)),
-)
-  where
-    there : ℕ
-    there = at + 4 * n
-
-    away : (m : ℕ) → (m ≡ at + 4 * n → ⊥) → (m ≡ at + 4 * n + 1 → ⊥) → (m ≡ at + 4 * n + 2 → ⊥) → (m ≡ at + 4 * n + 3 → ⊥) → get_or (frame_put ys (at + 4 * n) (get_or ls n 0) (get_or rs n 0)) m 0 ≡ get_or ys m 0
-    away m = elsewhere ys (at + 4 * n) (get_or ls n 0) (get_or rs n 0) m
-
-    own : (j : ℕ) → j ≡ n → FrameAt (frame_put ys (at + 4 * n) (get_or ls n 0) (get_or rs n 0)) (at + 4 * j) (get_or ls j 0) (get_or rs j 0)
-    own j e = subst (λ (i : ℕ). FrameAt (frame_put ys (at + 4 * n) (get_or ls n 0) (get_or rs n 0)) (at + 4 * i) (get_or ls i 0) (get_or rs i 0)) (sym e) (put-there ys (at + 4 * n) (get_or ls n 0) (get_or rs n 0) k)
-
-    earlier : (j : ℕ) → j < n → FrameAt (frame_put ys (at + 4 * n) (get_or ls n 0) (get_or rs n 0)) (at + 4 * j) (get_or ls j 0) (get_or rs j 0)
-    earlier j l =
-        let f = s.0 j l in (
-          away (at + 4 * j) (λ e. omega arith) (λ e. omega arith) (λ e. omega arith) (λ e. omega arith) ∙ f.0,
-          away (at + 4 * j + 1) (λ e. omega arith) (λ e. omega arith) (λ e. omega arith) (λ e. omega arith) ∙ f.1,
-          away (at + 4 * j + 2) (λ e. omega arith) (λ e. omega arith) (λ e. omega arith) (λ e. omega arith) ∙ f.2,
-          away (at + 4 * j + 3) (λ e. omega arith) (λ e. omega arith) (λ e. omega arith) (λ e. omega arith) ∙ f.3,
-        )
-
 -- ---- a block: both sides' samples of xs, scaled, put behind what is amplified already
 module _ (g h : Gain) (n i : ℕ) (xs vs ws ys zs : List ℕ) (aligned : i % 4 ≡ 0) (source : i + 4 * n ≤ length xs) (left : ScaledSide n g xs i vs) (right : ScaledSide n h xs (i + 2) ws)
     (put : Scattered n vs ws i ys zs) where
@@ -255,13 +188,6 @@ module _ (g h : Gain) (n i : ℕ) (xs vs ws ys zs : List ℕ) (aligned : i % 4 �
 pub same-scaled : (n : ℕ) (g : Gain) (xs ys : List ℕ) (i at : ℕ) (ws : List ℕ) → i ≤ at → SameFrom i xs ys → ScaledSide n g ys at ws → ScaledSide n g xs at ws
 same-scaled n g xs ys i at ws h s w k l =
     w k l ∙ ap (λ (x : ℕ). scaled16 g (x + 256 * get_or ys (at + 4 * k + 1) 0)) (s (at + 4 * k) (omega arith)) ∙ ap (λ (x : ℕ). scaled16 g (get_or xs (at + 4 * k) 0 + 256 * x)) (s (at + 4 * k + 1) (omega arith))
-
--- a right sample's place, as the code computes it
-pub right-sample : (xs : List ℕ) (at k : ℕ) → get_or xs (at + 4 * k + 2) 0 + 256 * get_or xs (at + 4 * k + 3) 0 ≡ sample_at xs (at + 2 + 4 * k)
-right-sample xs at k =
-    let low : at + 4 * k + 2 ≡ at + 2 + 4 * k = omega arith in
-    let high : at + 4 * k + 3 ≡ at + 2 + 4 * k + 1 = omega arith in
-    ap (λ (p : ℕ). get_or xs p 0 + 256 * get_or xs (at + 4 * k + 3) 0) low ∙ ap (λ (p : ℕ). get_or xs (at + 2 + 4 * k) 0 + 256 * get_or xs p 0) high
 
 -- ---- both sides silent, and both as they are
 silence-is : (g : Gain) → is_silence g ≡ true → g ≡ Silence
@@ -306,8 +232,26 @@ front_of [] ys (suc n) m k l = absurd (not-suc-le-zero k)
 front_of (x ∷ xs) ys (suc n) zero k l = refl
 front_of (x ∷ xs) ys (suc n) (suc m) k l = front_of xs ys n m (le_of_suc-le-suc k) (le_of_suc-le-suc l)
 
-pub copied-front : (xs ys : List ℕ) (j n m : ℕ) → j ≡ n → n ≤ length xs → m < n → get_or (take (length (take j xs)) (take j xs) ++ ys) m 0 ≡ get_or xs m 0
-copied-front xs ys j n m e k l = ap (λ (zs : List ℕ). get_or (zs ++ ys) m 0) (take-length (take j xs)) ∙ ap (λ (i : ℕ). get_or (take i xs ++ ys) m 0) e ∙ front_of xs ys n m k l
+-- the front of a buffer overwritten: with zeros, with the front of another, and with its own words scaled
+pub zeros-front : (xs ys : List ℕ) (n : ℕ) → n ≤ length xs → ys ≡ replicate (length (take n xs)) 0 → ZerosTo n (ys ++ drop n xs)
+zeros-front xs ys n k e m l =
+    let whole : length (take n xs) ≡ n = length-take-le n xs k in
+    let filled : length ys ≡ n = ap length e ∙ length-replicate (length (take n xs)) 0 ∙ whole in
+    get_or-append ys (drop n xs) 0 m (omega arith) ∙ ap (λ (zs : List ℕ). get_or zs m 0) e ∙ get_or-replicate (length (take n xs)) m 0 0 (omega arith)
+
+pub copied-front : (xs ys zs : List ℕ) (n : ℕ) → n ≤ length xs → ys ≡ take n xs → (m : ℕ) → m < n → get_or (ys ++ zs) m 0 ≡ get_or xs m 0
+copied-front xs ys zs n k e m l = ap (λ (us : List ℕ). get_or (us ++ zs) m 0) e ∙ front_of xs zs n m k l
+
+pub same-behind : (xs ys : List ℕ) (n : ℕ) → n ≤ length xs → length ys ≡ length (take n xs) → SameFrom n xs (ys ++ drop n xs)
+same-behind xs ys n k e m l =
+    let whole : length (take n xs) ≡ n = length-take-le n xs k in
+    let there : n + (m - n) ≡ m = omega arith in
+    get_or-append_right ys (drop n xs) n m 0 (e ∙ whole) l ∙ get_or-drop n xs (m - n) 0 ∙ ap (λ (i : ℕ). get_or xs i 0) there
+
+pub front-scaled : (n : ℕ) (g : Gain) (xs ys : List ℕ) → n ≤ length xs → length ys ≡ length (take n xs) → EachScaled (λ v w. w ≡ scaled16 g v) (take n xs) ys → ScaledWords n g xs (ys ++ drop n xs)
+front-scaled n g xs ys k e s m l =
+    let whole : length (take n xs) ≡ n = length-take-le n xs k in
+    get_or-append ys (drop n xs) 0 m (omega arith) ∙ s m (omega arith) ∙ ap (scaled16 g) (get_or-take n xs m 0 l)
 
 -- ---- in place, the sample behind the whole frames
 module _ (g h : Gain) (n : ℕ) (xs ys : List ℕ) (aligned : n % 4 ≡ 0) (last : length xs < n + 4) (e : length ys ≡ length xs) (a : AmplifiedTo n g h xs ys) (s : SameFrom n xs ys) where

@@ -56,6 +56,10 @@ SameFrom n xs ys = (m : ℕ) → n ≤ m → get_or ys m 0 ≡ get_or xs m 0
 abbrev pub Gathered : ℕ → List ℕ → ℕ → List ℕ → Type 0
 Gathered n xs at ws = (k : ℕ) → k < n → get_or ws k 0 ≡ sample_at xs (at + 4 * k)
 
+-- Each of vs, taken to a word of ws.
+abbrev pub EachScaled : (ℕ → ℕ → Type 0) → List ℕ → List ℕ → Type 0
+EachScaled Scales vs ws = (k : ℕ) → k < length vs → Scales (get_or vs k 0) (get_or ws k 0)
+
 abbrev pub ScaledWords : ℕ → Gain → List ℕ → List ℕ → Type 0
 ScaledWords n g vs ws = (k : ℕ) → k < n → get_or ws k 0 ≡ scaled16 g (get_or vs k 0)
 

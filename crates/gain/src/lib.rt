@@ -8,8 +8,8 @@
 ghost use Rattle.std.specs.Prelude.{◌≡◌, T, length, ◌+◌, ◌*◌, ◌/◌, ◌%◌, ◌≤◌, ◌<◌, min};
 ghost use Rattle.std.specs.Float.Ieee.Positive.{positive};
 ghost use Rattle.gain.specs.declared.Gain.TheVariants.{Factor};
-ghost use Rattle.gain.specs.Gain.{factor, gain_of, whole_of, rounded, scaled, signed16, bits16, scaled16, amplified_of, side_at, amplified_byte, one_pass_of};
-ghost use Rattle.gain.specs.Fast.{roundable, limited, magnitude16, with_sign16, is_silence, is_unity, blockwise, AmplifiedTo, ZerosTo, SameFrom, Gathered, ScaledWords, ScaledSide, Scattered, sample_scaled};
+ghost use Rattle.gain.specs.Gain.{factor, gain_of, whole_of, rounded, scaled, scaled16, amplified_of, side_at, amplified_byte, one_pass_of};
+ghost use Rattle.gain.specs.Fast.{roundable, limited, magnitude16, with_sign16, is_silence, is_unity, blockwise, AmplifiedTo, SameFrom, Gathered, EachScaled, ScaledWords, ScaledSide, Scattered, sample_scaled};
 
 // What is done to a sample: `scaled` of specs/Gain.antt has the meaning of each case.
 #[derive(Clone, Copy)]
@@ -97,7 +97,8 @@ fn round_to_sample(product: f64) -> i16
     }
 }
 
-// A magnitude cut at 32768: all that is past it, an infinity too, clamps to the same sample.
+// A magnitude cut at 32768: all that is past it, an infinity too, clamps to the same sample. Not `min`: of two equal values its contract leaves
+// open which one it gives.
 fn limit(magnitude: f64) -> f64
     ensures { result ≡ limited magnitude }
 {
@@ -132,37 +133,14 @@ fn round_half_up(magnitude: f64) -> u16
 fn word_of(low: u8, high: u8) -> u16
     ensures { result ≡ low + 256 * high }
 {
-    (low as u16) + 256 * (high as u16)
-}
-
-// 16 bits as a number in two's complement, and back.
-fn to_signed(word: u16) -> i16
-    ensures { result ≡ signed16 word }
-{
-    if word < 32768 {
-        word as i16
-    } else {
-        let below = 65535 - word;
-        -1 - (below as i16)
-    }
-}
-
-fn to_word(sample: i16) -> u16
-    ensures { result ≡ bits16 sample }
-{
-    if sample >= 0 {
-        sample as u16
-    } else {
-        let below = -1 - sample;
-        65535 - (below as u16)
-    }
+    u16::from_le_bytes([low, high])
 }
 
 // `scale` over 16 bits, by any gain.
 fn scale_any(word: u16, gain: Gain) -> u16
     ensures { result ≡ scaled16 gain word }
 {
-    to_word(scale(gain, to_signed(word)))
+    scale(gain, word.cast_signed()).cast_unsigned()
 }
 
 // The magnitude of 16 bits as a signed number.
@@ -200,33 +178,13 @@ fn scale_word(word: u16, factor: f64) -> u16
 fn is_silence(gain: Gain) -> bool
     ensures { result ≡ is_silence gain }
 {
-    match gain {
-        Gain::Silence => true,
-        Gain::Unity => false,
-        Gain::Factor(_) => false,
-    }
+    matches!(gain, Gain::Silence)
 }
 
 fn is_unity(gain: Gain) -> bool
     ensures { result ≡ is_unity gain }
 {
-    match gain {
-        Gain::Silence => false,
-        Gain::Unity => true,
-        Gain::Factor(_) => false,
-    }
-}
-
-// The first n bytes become 0.
-fn clear(bytes: &mut [u8], n: usize)
-    requires { n ≤ length bytes.old }
-    ensures { ZerosTo n bytes.new × SameFrom n bytes.old bytes.new }
-{
-    let mut i = 0;
-    while i < n {
-        bytes[i] = 0;
-        i += 1;
-    }
+    matches!(gain, Gain::Unity)
 }
 
 // ---- In place
@@ -239,7 +197,7 @@ fn frames_in_place(pcm: &mut [u8], whole: usize, left: Gain, right: Gain)
     let silent = is_silence(left) & is_silence(right);
     let same = is_unity(left) & is_unity(right);
     if silent {
-        clear(pcm, whole);
+        pcm[..whole].fill(0);
     } else if !same {
         blocks_in_place(pcm, whole, left, right);
     }
@@ -253,6 +211,7 @@ fn blocks_in_place(pcm: &mut [u8], whole: usize, left: Gain, right: Gain)
     let mut lefts: [u16; 64] = [0; 64];
     let mut rights: [u16; 64] = [0; 64];
     let mut i = 0;
+    // A block is as long as what is left allows, so that no range is gone through here.
     while i < whole {
         let n = block_of(whole - i);
         scale_frames(pcm, i, &mut lefts, &mut rights, n, left, right);
@@ -284,15 +243,15 @@ fn frames_into(pcm: &[u8], into: &mut [u8], whole: usize, left: Gain, right: Gai
     let silent = is_silence(left) & is_silence(right);
     let same = is_unity(left) & is_unity(right);
     if silent {
-        clear(into, whole);
+        into[..whole].fill(0);
     } else if same {
-        word::copy(&pcm[0..whole], into);
+        into[..whole].copy_from_slice(&pcm[..whole]);
     } else {
         blocks_into(pcm, into, whole, left, right);
     }
 }
 
-// The same for any gains, up to 64 frames at a time.
+// The same for any gains, up to 64 frames at a time. A twin of `blocks_in_place`: one function for both would be lent the same bytes to read and to write.
 fn blocks_into(pcm: &[u8], into: &mut [u8], whole: usize, left: Gain, right: Gain)
     requires { (whole % 4 ≡ 0) × (whole ≤ length into.old) × (whole ≤ length pcm.now) }
     ensures { AmplifiedTo whole left right pcm.now into.new }
@@ -300,6 +259,7 @@ fn blocks_into(pcm: &[u8], into: &mut [u8], whole: usize, left: Gain, right: Gai
     let mut lefts: [u16; 64] = [0; 64];
     let mut rights: [u16; 64] = [0; 64];
     let mut i = 0;
+    // A block is as long as what is left allows, so that no range is gone through here.
     while i < whole {
         let n = block_of(whole - i);
         scale_frames(pcm, i, &mut lefts, &mut rights, n, left, right);
@@ -313,10 +273,8 @@ fn rest_into(pcm: &[u8], into: &mut [u8], at: usize, left: Gain, right: Gain)
     requires { (at ≤ length into.old) × (length into.old ≤ length pcm.now) × AmplifiedTo at left right pcm.now into.old }
     ensures { into.new ≡ one_pass_of left right pcm.now (length into.old) }
 {
-    let mut i = at;
-    while i < into.len() {
+    for i in at..into.len() {
         into[i] = amplified_byte(pcm, i, left, right);
-        i += 1;
     }
 }
 
@@ -357,8 +315,7 @@ fn side_at(left: Gain, right: Gain, at: usize) -> Gain
 fn block_of(left: usize) -> usize
     ensures { result ≡ min (left / 4) 64 }
 {
-    let n = left / 4;
-    if n < 64 { n } else { 64 }
+    (left / 4).min(64)
 }
 
 // The samples of n frames from the byte `at` on, each scaled by its side's gain.
@@ -384,12 +341,10 @@ fn gather(pcm: &[u8], at: usize, lefts: &mut [u16], rights: &mut [u16], n: usize
     requires { (n ≤ length lefts.old) × (n ≤ length rights.old) × (at + 4 * n ≤ length pcm.now) }
     ensures { Gathered n pcm.now at lefts.new × Gathered n pcm.now (at + 2) rights.new }
 {
-    let mut k = 0;
-    while k < n {
+    for k in 0..n {
         let i = at + 4 * k;
         lefts[k] = word_of(pcm[i], pcm[i + 1]);
         rights[k] = word_of(pcm[i + 2], pcm[i + 3]);
-        k += 1;
     }
 }
 
@@ -399,14 +354,12 @@ fn scale_side(words: &mut [u16], n: usize, gain: Gain)
     ensures { ScaledWords n gain words.old words.new }
 {
     match gain {
-        Gain::Silence => scale_plain(words, n, gain),
         Gain::Unity => {}
-        Gain::Factor(factor) => {
-            if is_blockwise(factor) {
-                scale_words(words, n, factor);
-            } else {
-                scale_plain(words, n, gain);
-            }
+        Gain::Factor(factor) if is_blockwise(factor) => {
+            scale_each(&mut words[..n], |word| scale_word(word, factor))
+        }
+        Gain::Silence | Gain::Factor(_) => {
+            scale_each(&mut words[..n], |word| scale_any(word, gain))
         }
     }
 }
@@ -418,28 +371,13 @@ fn is_blockwise(factor: f64) -> bool
     (factor > 0.0) & (factor < 65536.0)
 }
 
-// Each of the first n words scaled.
-fn scale_words(words: &mut [u16], n: usize, factor: f64)
-    requires n_in_bounds { n ≤ length words.old }
-    requires factor_is_positive { T (positive factor) }
-    ensures { ScaledWords n (Factor factor) words.old words.new }
+// Each word scaled.
+fn scale_each<F: Fn(u16) -> u16>(words: &mut [u16], scale: F)
+    requires { F.IsAlwaysCallable scale }
+    ensures { EachScaled (F.post scale) words.old words.new }
 {
-    let mut k = 0;
-    while k < n {
-        words[k] = scale_word(words[k], factor);
-        k += 1;
-    }
-}
-
-// The same by any gain.
-fn scale_plain(words: &mut [u16], n: usize, gain: Gain)
-    requires { n ≤ length words.old }
-    ensures { ScaledWords n gain words.old words.new }
-{
-    let mut k = 0;
-    while k < n {
-        words[k] = scale_any(words[k], gain);
-        k += 1;
+    for word in words.iter_mut() {
+        *word = scale(*word);
     }
 }
 
@@ -448,8 +386,7 @@ fn scatter(lefts: &[u16], rights: &[u16], pcm: &mut [u8], at: usize, n: usize)
     requires { (n ≤ length lefts.now) × (n ≤ length rights.now) × (at + 4 * n ≤ length pcm.old) }
     ensures { Scattered n lefts.now rights.now at pcm.old pcm.new }
 {
-    let mut k = 0;
-    while k < n {
+    for k in 0..n {
         let i = at + 4 * k;
         let i1 = i + 1;
         let i2 = i + 2;
@@ -460,7 +397,6 @@ fn scatter(lefts: &[u16], rights: &[u16], pcm: &mut [u8], at: usize, n: usize)
         pcm[i1] = (l / 256) as u8;
         pcm[i2] = (r % 256) as u8;
         pcm[i3] = (r / 256) as u8;
-        k += 1;
     }
 }
 

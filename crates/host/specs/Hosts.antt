@@ -1,12 +1,12 @@
 -- The host end record: the two opening switches, the downstream count, and the queues (document 01, "Host end, added"), with its check: the
 -- numbers 10 and 9, in that order (document 01, Numbers returned).
-use Rattle.std.specs.Prelude.{ℕ, ◌*◌, ◌%◌, Bool, true, false, cond, ◌&&◌, List, [], ◌∷◌, get_or, set, replicate, ltb, leb, eqb}
+use Rattle.std.specs.Prelude.{ℕ, ◌*◌, ◌%◌, Bool, true, false, cond, ◌&&◌, List, get_or, set, replicate, ltb, leb, eqb}
+use Rattle.std.specs.List.{list_all}
 use Rattle.word.specs.Parts.{part_of}
 use Rattle.stream.specs.Box.{streams, captures}
 use Rattle.queue.specs.declared.Queue.{Queue}
 use Rattle.queue.specs.Queues.{capacity, queue, closed, valid_queue, contents_of}
 use Rattle.host.specs.declared.Host.{Host}
-use Rattle.host.specs.declared.Opening.{Opening}
 
 -- bytes that the host holds beyond the queue, at most (document 01, Host end, added)
 abbrev pub max_downstream : ℕ
@@ -25,17 +25,13 @@ queue_at h i = get_or h.queues i closed
 abbrev pub with_queue : Host → ℕ → Queue → Host
 with_queue h i q = host h.playback h.capture h.downstream (set h.queues i q)
 
-abbrev pub every : (Queue → Bool) → List Queue → Bool
-every p [] = true
-every p (q ∷ qs) = p q && every p qs
-
 -- number 12's condition on a downstream count (document 01, Numbers returned)
 abbrev pub valid_downstream : ℕ → Bool
 valid_downstream n = leb n max_downstream && eqb (n % 4) 0
 
 -- what a host end record must meet, else number 9 (document 01, Numbers returned, below the table)
 unfoldable pub valid_of : Host → Bool
-valid_of h = valid_downstream h.downstream && every valid_queue h.queues
+valid_of h = valid_downstream h.downstream && list_all valid_queue h.queues
 
 -- 10 for short queue space, 9 for a record that breaks a condition, else 0
 unfoldable pub check_of : Host → ℕ → ℕ
@@ -46,6 +42,10 @@ abbrev pub fails_of : Host → ℕ → Bool
 fails_of h i = cond (captures i) h.capture h.playback
 
 -- what an opening leaves: whether the stream is open, and the host end
+pub record Opening : Type 0 where
+  pub ok : Bool
+  pub host : Host
+
 abbrev pub opening_of : Bool → Host → Opening
 opening_of ok h = record { ok = ok; host = h }
 

@@ -3,17 +3,21 @@
 #![tactic(auto)]
 
 ghost use Rattle.std.specs.Prelude.{◌≡◌, ◌<◌};
+ghost use Rattle.std.specs.List.{list_all};
+ghost use Rattle.queue.specs.Queues.{valid_queue};
 ghost use Rattle.stream.specs.Box.{streams};
-ghost use Rattle.host.specs.Hosts.{fresh_of, valid_downstream, valid_of, check_of, fails_of, open_of, close_of};
+ghost use Rattle.refusal.specs.Refusals.{outcome_of};
+ghost use Rattle.host.specs.Hosts.{fresh_of, valid_downstream, valid_of, check_of, fails_of, opening_of, open_of, close_of};
 
 use queue::Queue;
+use refusal::Refusal;
 use stream::{STREAMS, Stream};
 
 // Bytes that the host holds beyond the queue, at most.
 pub const DOWNSTREAM: u32 = 14336;
 
 // The host end. `playback` and `capture` make openings of that direction fail; `downstream` counts bytes that the host holds beyond the queue.
-#[derive(Clone, Copy)]
+#[derive(Clone, Copy, PartialEq, Eq, Debug)]
 pub struct Host {
     pub playback: bool,
     pub capture: bool,
@@ -21,22 +25,23 @@ pub struct Host {
     pub queues: [Queue; STREAMS],
 }
 
-// What an opening answers: whether the stream is open, and the host end.
-#[derive(Clone, Copy)]
-pub struct Opening {
-    pub host: Host,
-    pub ok: bool,
-}
-
 // Number 12's condition on a downstream count.
 pub fn downstream_valid(n: u32) -> bool
     ensures { result ≡ valid_downstream n }
 {
-    (n <= DOWNSTREAM) & (n % 4 == 0)
+    n <= DOWNSTREAM && n % 4 == 0
+}
+
+// Whether each queue keeps its conditions.
+fn all_valid(queues: &[Queue]) -> bool
+    ensures { result ≡ list_all valid_queue queues.now }
+{
+    queues.iter().all(|q| q.valid())
 }
 
 impl Host {
     // A new host end: both switches off, downstream 0, every stream closed.
+    #[tactic(auto, unfolding(crate::specs::Hosts::fresh_of))]
     pub fn fresh() -> Host
         ensures { result ≡ fresh_of }
     {
@@ -44,44 +49,35 @@ impl Host {
             playback: false,
             capture: false,
             downstream: 0,
-            queues: [Queue {
-                live: false,
-                length: 0,
-            }; STREAMS],
+            queues: [Queue::CLOSED; STREAMS],
         }
     }
 
     // What a host end record must meet, else number 9.
+    #[tactic(auto, unfolding(crate::specs::Hosts::valid_of))]
     pub fn valid(self) -> bool
         ensures { result ≡ valid_of self }
     {
-        if !downstream_valid(self.downstream) {
-            return false;
-        }
-        let count = STREAMS;
-        let mut i = 0;
-        while i < count {
-            let q = self.queues[i];
-            if !q.valid() {
-                return false;
-            }
-            i += 1;
-        }
-        true
+        downstream_valid(self.downstream) && all_valid(&self.queues)
     }
 
-    // 10 for short queue space, 9 for a record that breaks a condition, else 0.
-    pub fn check(self, space: usize) -> u32
-        ensures { result ≡ check_of self space }
+    // Refuses short queue space first, then a record that breaks a condition.
+    #[tactic(auto, unfolding(crate::specs::Hosts::check_of))]
+    pub fn check(self, space: usize) -> Result<(), Refusal>
+        ensures { outcome_of result ≡ check_of self space }
     {
         if space < Stream::QUEUE * STREAMS {
-            return 10;
+            return Err(Refusal::LentSpace);
         }
-        if self.valid() { 0 } else { 9 }
+        if self.valid() {
+            Ok(())
+        } else {
+            Err(Refusal::State)
+        }
     }
 
     // The switch that makes a stream's opening fail.
-    fn fails(self, stream: usize) -> bool
+    pub fn fails(self, stream: usize) -> bool
         ensures { result ≡ fails_of self stream }
     {
         if stream::is_capture(stream) {
@@ -91,43 +87,31 @@ impl Host {
         }
     }
 
-    // A stream that is open stays so, its queue too; else the switch decides, and opening empties the queue.
-    pub fn open(mut self, stream: usize) -> Opening
+    // Opens a stream, and says whether it is open. One that is open stays so, its queue too; else the switch decides, and opening empties the queue.
+    #[tactic(auto, unfolding(crate::specs::Hosts::open_of))]
+    pub fn open(&mut self, stream: usize) -> bool
         requires { stream < streams }
-        ensures { result ≡ open_of self stream }
+        ensures { opening_of result self.new ≡ open_of self.old stream }
     {
-        let q = self.queues[stream];
-        if q.live {
-            return Opening {
-                ok: true,
-                host: self,
-            };
+        if self.queues[stream].live {
+            return true;
         }
         if self.fails(stream) {
-            return Opening {
-                ok: false,
-                host: self,
-            };
+            return false;
         }
         self.queues[stream] = Queue {
             live: true,
             length: 0,
         };
-        Opening {
-            ok: true,
-            host: self,
-        }
+        true
     }
 
     // Closing empties the queue.
-    pub fn close(mut self, stream: usize) -> Host
+    #[tactic(auto, unfolding(crate::specs::Hosts::close_of))]
+    pub fn close(&mut self, stream: usize)
         requires { stream < streams }
-        ensures { result ≡ close_of self stream }
+        ensures { self.new ≡ close_of self.old stream }
     {
-        self.queues[stream] = Queue {
-            live: false,
-            length: 0,
-        };
-        self
+        self.queues[stream] = Queue::CLOSED;
     }
 }

@@ -1,30 +1,21 @@
--- The queues' flags tested one by one: a turn, a flag that fails, the end, and every queue. Assumes nothing.
-use Prim.Native.Nat.{ℕ, zero, suc, ◌+◌, ◌-◌, ◌≤◌, ◌<◌}
+-- The queues' flags tested one by one: the scan over the numbers, and every queue. Assumes nothing.
+use Prim.Native.Nat.{ℕ, zero, suc, ◌+◌, ◌≤◌, ◌<◌}
 use mathlib.Core.Path.{◌≡◌, refl}
-use mathlib.Core.Bool.{true, false}
+use mathlib.Core.Bool.{true}
 use mathlib.Core.List.{List}
 use mathlib.Core.Logic.{⊎_elim}
 use native.Mathlib.Omega.{arith}
 use native.Mathlib.Nat.{eq-or-lt_of_le}
-use borrow.Author.Tests.{le-leb, lt-leb}
-use lib.ListN.{get_or}
+use Rattle.std.specs.List.{list_all, range_with_len}
 use Rattle.word.proofs.Choices.{left, right}
 use Rattle.record.specs.Loads.{is_flag_at}
 use Rattle.host_record.specs.Hosts.{queue_place, queues_flagged}
 
--- of `n` queues, queue `i` and those after it
-module _ (n i : ℕ) (b : List ℕ) where
-  pub flagged-more : i < n → get_or b (queue_place i) 0 ≤ 1 → queues_flagged (n - i) i b ≡ queues_flagged (n - (i + 1)) (i + 1) b
-  unfolding queues_flagged
-  flagged-more h f = let more : n - i ≡ suc (n - (i + 1)) = omega arith in rw (more, le-leb _ _ f)
-
-  pub flagged-stop : i < n → 1 < get_or b (queue_place i) 0 → queues_flagged (n - i) i b ≡ false
-  unfolding queues_flagged
-  flagged-stop h f = let more : n - i ≡ suc (n - (i + 1)) = omega arith in rw (more, lt-leb _ _ f)
-
-  pub flagged-end : n ≤ i → queues_flagged (n - i) i b ≡ true
-  unfolding queues_flagged
-  flagged-end h = let none : n - i ≡ 0 = omega arith in rw none
+-- what the scan over the numbers gives
+pub flagged_list : (b : List ℕ) (n i : ℕ) → list_all (λ (k : ℕ). is_flag_at (queue_place k) b) (range_with_len i n) ≡ queues_flagged n i b
+unfolding queues_flagged
+flagged_list b zero i = refl
+flagged_list b (suc n) i = rw (flagged_list b n (i + 1)) refl
 
 -- the queues from `i` on, one by one, and back
 module _ (b : List ℕ) where

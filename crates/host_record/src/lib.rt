@@ -8,6 +8,7 @@ ghost use Rattle.host_record.specs.Hosts.{host_size, queue_bytes, queues_bytes, 
 
 use host::Host;
 use queue::Queue;
+use std::array;
 use stream::STREAMS;
 
 // Bytes of a host end record before its queues, of a queue in it, and of the record.
@@ -23,19 +24,15 @@ fn put_queue(q: Queue, into: &mut [u8], at: usize)
 {
     let live = [record::flag_byte(q.live)];
     record::put(into, at, &live);
-    word::put32(into, at + 1, q.length);
+    word::put::<u32>(into, at + 1, q.length);
 }
 
 fn put_queues(host: Host, into: &mut [u8])
     requires { host_size ≤ length into.old }
     ensures { into.new ≡ put_at 6 (queues_bytes streams 0 host) into.old }
 {
-    let count = STREAMS;
-    let mut index = 0;
-    while index < count {
-        let q = host.queues[index];
-        put_queue(q, into, SETTINGS + QUEUE * index);
-        index += 1;
+    for index in 0..STREAMS {
+        put_queue(host.queues[index], into, SETTINGS + QUEUE * index);
     }
 }
 
@@ -49,7 +46,7 @@ pub fn store_host(host: Host, into: &mut [u8])
         record::flag_byte(host.capture),
     ];
     record::put(into, 0, &flags);
-    word::put32(into, 2, host.downstream);
+    word::put::<u32>(into, 2, host.downstream);
     put_queues(host, into);
 }
 
@@ -59,7 +56,7 @@ fn load_queue(from: &[u8], at: usize) -> Queue
 {
     Queue {
         live: from[at] == 1,
-        length: word::get32(from, at + 1),
+        length: word::get::<u32>(from, at + 1),
     }
 }
 
@@ -67,19 +64,7 @@ fn load_queues(from: &[u8]) -> [Queue; STREAMS]
     requires { host_size ≤ length from.now }
     ensures { result ≡ queues_at streams 0 from.now }
 {
-    let closed = Queue {
-        live: false,
-        length: 0,
-    };
-    let mut loaded = [closed; STREAMS];
-    let count = STREAMS;
-    let mut index = 0;
-    while index < count {
-        let q = load_queue(from, SETTINGS + QUEUE * index);
-        loaded[index] = q;
-        index += 1;
-    }
-    loaded
+    array::from_fn(|index| load_queue(from, SETTINGS + QUEUE * index))
 }
 
 // The host end in a record.
@@ -90,7 +75,7 @@ pub fn load_host(from: &[u8]) -> Host
     Host {
         playback: from[0] == 1,
         capture: from[1] == 1,
-        downstream: word::get32(from, 2),
+        downstream: word::get::<u32>(from, 2),
         queues: load_queues(from),
     }
 }
@@ -100,23 +85,13 @@ fn queues_flagged(from: &[u8]) -> bool
     requires { host_size ≤ length from.now }
     ensures { result ≡ queues_flagged streams 0 from.now }
 {
-    let count = STREAMS;
-    let mut index = 0;
-    while index < count {
-        if from[SETTINGS + QUEUE * index] > 1 {
-            return false;
-        }
-        index += 1;
-    }
-    true
+    (0..STREAMS).all(|index| from[SETTINGS + QUEUE * index] <= 1)
 }
 
 // Whether bytes are a host end record: as many as it has, and flags that are 0 or 1.
+#[tactic(auto, unfolding(crate::specs::Hosts::is_host))]
 pub fn is_host(from: &[u8]) -> bool
     ensures { result ≡ is_host from.now }
 {
-    if from.len() != HOST {
-        return false;
-    }
-    (from[0] <= 1) & ((from[1] <= 1) & queues_flagged(from))
+    from.len() == HOST && from[0] <= 1 && from[1] <= 1 && queues_flagged(from)
 }

@@ -13,8 +13,7 @@ use Rattle.word.specs.Place.{word_at}
 use Rattle.word.proofs.Choices.{by-test}
 use Rattle.word.proofs.Lists.{copied-whole, length_part, bytes_take, bytes_drop}
 use Rattle.clock.specs.Frames.{accrue_of, whole_frames_of}
-use Rattle.format.specs.declared.Format.{Format}
-use Rattle.format.specs.declared.Format.TheVariants.{Unsupported, Rate}
+use Rattle.std.specs.Prelude.{Option, None, Some}
 use Rattle.format.specs.Format.{format_of}
 use Rattle.stream.specs.declared.Stream.{Stream}
 use Rattle.stream.specs.Box.{streams, captures}
@@ -39,10 +38,10 @@ use Rattle.jitter.proofs.Scratch.{copy, copy-stands, copy-copied}
 use Rattle.jitter.proofs.Walks.{movable-rises, SameMovable, case, walk_first, walk-next}
 
 -- ---- frames
-pub frames-none : (fraction nanos : ℕ) (f k : Format) → f ≡ k → f ≡ Unsupported → 0 ≡ frames_by fraction nanos k
+pub frames-none : (fraction nanos : ℕ) (f k : Option ℕ) → f ≡ k → f ≡ None → 0 ≡ frames_by fraction nanos k
 frames-none fraction nanos f k e z = rw (← e, z)
 
-pub frames-rated : (fraction nanos : ℕ) (f k : Format) (rate time frames : ℕ) → f ≡ k → f ≡ Rate rate → time ≡ accrue_of rate nanos fraction → frames ≡ whole_frames_of time
+pub frames-rated : (fraction nanos : ℕ) (f k : Option ℕ) (rate time frames : ℕ) → f ≡ k → f ≡ Some rate → time ≡ accrue_of rate nanos fraction → frames ≡ whole_frames_of time
     → frames ≡ frames_by fraction nanos k
 frames-rated fraction nanos f k rate time frames e z et ef = rw (← e, z) (ef ∙ ap whole_frames_of et)
 

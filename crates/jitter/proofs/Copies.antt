@@ -5,7 +5,7 @@ use mathlib.Core.List.{List, ◌++◌}
 use native.Mathlib.Omega.{arith}
 use lib.ListN.{length, take, drop}
 use Rattle.word.proofs.Lists.{length_part, part_count, copied-whole}
-use Rattle.word.proofs.Put.{put_same, put-lent}
+use Rattle.word.proofs.Puts.{put_same, put-lent}
 use Rattle.jitter.specs.Steps.{window_of}
 
 module _ (m l : List ℕ) (at n : ℕ) (same : length l ≡ length m) where

@@ -6,15 +6,13 @@ use mathlib.Core.List.{List}
 use Rattle.word.specs.Place.{word_at}
 use Rattle.word.proofs.Choices.{by_cond}
 use Rattle.word.proofs.Each.{each-keeps-until}
-use Rattle.format.specs.declared.Format.{Format}
-use Rattle.format.specs.declared.Format.TheVariants.{Unsupported, Rate}
+use Rattle.std.specs.Prelude.{Option, None, Some}
 use Rattle.format.specs.Format.{format_of}
 use Rattle.codec.specs.declared.Codec.{Codec}
 use Rattle.stream.specs.declared.Stream.{Stream}
 use Rattle.stream.specs.Box.{streams, captures}
 use Rattle.host.specs.declared.Host.{Host}
-use Rattle.host.specs.declared.Opening.{Opening}
-use Rattle.host.specs.Hosts.{queue_at, with_queue, fails_of, opening_of, open_of}
+use Rattle.host.specs.Hosts.{Opening, queue_at, with_queue, fails_of, opening_of, open_of}
 use Rattle.queue.specs.Queues.{queue}
 use Rattle.registers.specs.Places.{fmt, dma_of}
 use Rattle.turn.specs.Turns.{open_stream_of, Turn, formatted_of, turn_of}
@@ -53,9 +51,9 @@ module _ (regs : List ℕ) (codec : Codec) (h : Host) (microphone : Bool) (i nan
       P : Turn → Type 0
       P t = (t.turned.refused ≡ false) × Off t.turned.host
 
-      go : (f : Format) → P (formatted_of regs codec h microphone i nanos limit s l part m f)
-      go Unsupported = (refl, record { playback = off.playback; capture = off.capture })
-      go (Rate rate) =
+      go : (f : Option ℕ) → P (formatted_of regs codec h microphone i nanos limit s l part m f)
+      go None = (refl, record { playback = off.playback; capture = off.capture })
+      go (Some rate) =
           by_cond P (open_stream_of h microphone i).ok _ _ (λ _. (refl, record { playback = o.1.playback; capture = o.1.capture })) (λ no. absurd (true≢false (sym o.0 ∙ no)))
 
 abbrev Opened : Turns → Type 0

@@ -14,7 +14,7 @@ use Rattle.word.specs.Parts.{part_of}
 use Rattle.word.specs.Each.{always, each_of}
 use Rattle.word.proofs.Choices.{by-test}
 use Rattle.word.proofs.Lists.{length_part}
-use Rattle.word.proofs.Put.{length-put, put-byte-elsewhere}
+use Rattle.word.proofs.Puts.{length-put, put-byte-elsewhere}
 use Rattle.stream.specs.declared.Stream.{Stream}
 use Rattle.stream.specs.Box.{streams}
 use Rattle.stream.specs.Streams.{places, list_size, valid_of}

@@ -8,8 +8,7 @@ use lib.ListN.{length}
 use Rattle.word.specs.Place.{word_at}
 use Rattle.word.specs.Parts.{part_of}
 use Rattle.clock.proofs.Theorems.{accrue-whole}
-use Rattle.format.specs.declared.Format.{Format}
-use Rattle.format.specs.declared.Format.TheVariants.{Unsupported, Rate}
+use Rattle.std.specs.Prelude.{Option, None, Some}
 use Rattle.format.specs.Format.{format_of}
 use Rattle.stream.specs.Streams.{list_size}
 use Rattle.stream.specs.Box.{streams, captures}
@@ -45,15 +44,15 @@ bounds x i shortest longest order =
     }
 
 -- ---- frames to move rise with time, so that a run whose ends have as many has as many throughout
-frames-rise : (fraction t u : ℕ) (f : Format) → t ≤ u → frames_by fraction t f ≤ frames_by fraction u f
-frames-rise fraction t u Unsupported h = omega arith
-frames-rise fraction t u (Rate rate) h = omega (arith, accrue-whole rate t fraction, accrue-whole rate u fraction, mul-le-mul_right rate h)
+frames-rise : (fraction t u : ℕ) (f : Option ℕ) → t ≤ u → frames_by fraction t f ≤ frames_by fraction u f
+frames-rise fraction t u None h = omega arith
+frames-rise fraction t u (Some rate) h = omega (arith, accrue-whole rate t fraction, accrue-whole rate u fraction, mul-le-mul_right rate h)
 
 rises : (capture : Bool) (queued n m : ℕ) → n ≤ m → movable_by capture queued n ≤ movable_by capture queued m
 rises true queued n m h = h
 rises false queued n m h = omega arith
 
-pub movable-rises : (capture : Bool) (queued fraction t u : ℕ) (f : Format) → t ≤ u → movable_by capture queued (frames_by fraction t f) ≤ movable_by capture queued (frames_by fraction u f)
+pub movable-rises : (capture : Bool) (queued fraction t u : ℕ) (f : Option ℕ) → t ≤ u → movable_by capture queued (frames_by fraction t f) ≤ movable_by capture queued (frames_by fraction u f)
 movable-rises capture queued fraction t u f h = rises capture queued (frames_by fraction t f) (frames_by fraction u f) (frames-rise fraction t u f h)
 
 stream-rises : (d : Hda) (h : Host) (i t u : ℕ) → t ≤ u → movable_of d h i t ≤ movable_of d h i u

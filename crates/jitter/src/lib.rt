@@ -18,8 +18,9 @@ ghost use Rattle.jitter.specs.Bounds.{without_switches};
 ghost use Rattle.jitter.specs.Calls.{scratch, cleared_of, result_size, rows_of, result_of, bounding_of, bounded_of, bounds_of};
 ghost use Rattle.jitter.specs.Steps.{window_of, windows_of, seen_of, pending_of, CaseNeeds, SpreadNeeds, Lasting, Counted, CountedAt, Widened, SpreadOf};
 
-use format::Format;
 use host::Host;
+use refusal::Refusal;
+use std::array;
 use stream::{STREAMS, Stream};
 
 // Bytes of a stream's two counts, and of the result.
@@ -38,6 +39,7 @@ const LISTS: usize = Stream::LIST * STREAMS;
 const QUEUES: usize = Stream::QUEUE * STREAMS;
 
 // What the call answers beside scratch and result: its number, the INTx level, and how many bytes it wrote.
+// No Result: the C reply has all three also where the call is refused.
 #[derive(Clone, Copy)]
 pub struct Bounded {
     pub number: u32,
@@ -59,8 +61,8 @@ fn frames_by(word: u16, fraction: u64, nanos: u64) -> u64
     ensures { result ≡ frames_by fraction nanos (format_of word) }
 {
     match format::decode(word) {
-        Format::Unsupported => 0,
-        Format::Rate(rate) => clock::whole_frames(clock::accrue(fraction, nanos, rate)),
+        None => 0,
+        Some(rate) => clock::whole_frames(clock::accrue(fraction, nanos, rate)),
     }
 }
 
@@ -72,20 +74,16 @@ fn movable(capture: bool, queued: u32, word: u16, fraction: u64, nanos: u64) -> 
     if capture {
         return frames;
     }
-    word::least(
-        frames,
-        word::difference(Stream::QUEUE as u64, queued as u64) / 4,
-    )
+    frames.min((Stream::QUEUE as u64).saturating_sub(queued as u64) / 4)
 }
 
 // The time up to which so many frames are due. Nothing rests on it: `until` counts the frames there.
 fn guess(word: u16, fraction: u64, frames: u64) -> u64 {
     match format::decode(word) {
-        Format::Unsupported => 0,
-        Format::Rate(rate) => {
-            let next = (word::least(frames, clock::MAX_PENDING_FRAMES) + 1) * clock::BILLION;
-            let rest = word::difference(next, fraction);
-            word::difference(rest, 1) / word::greatest(rate as u64, 1)
+        None => 0,
+        Some(rate) => {
+            let next = (frames.min(clock::MAX_PENDING_FRAMES) + 1) * clock::BILLION;
+            next.saturating_sub(fraction).saturating_sub(1) / u64::from(rate).max(1)
         }
     }
 }
@@ -100,10 +98,7 @@ fn until(capture: bool, queued: u32, word: u16, fraction: u64, nanos: u64, longe
     if most == frames {
         return longest;
     }
-    let end = word::least(
-        word::greatest(guess(word, fraction, frames), nanos),
-        longest,
-    );
+    let end = guess(word, fraction, frames).max(nanos).min(longest);
     let there = movable(capture, queued, word, fraction, end);
     if there == frames {
         return end;
@@ -117,11 +112,9 @@ fn last_same(device: &[u8], host: Host, nanos: u64, longest: u64) -> u64
     ensures { Lasting (device_at device.now) host nanos longest result }
 {
     let mut end = longest;
-    let count = STREAMS;
-    let mut index = 0;
-    while index < count {
+    for index in 0..STREAMS {
         let s = record::load_stream(device, record::HEAD + record::NUMBERS * index);
-        let word = word::get16(
+        let word = word::get::<u16>(
             &device[record::REGISTERS..record::CODEC],
             registers::STREAM_BASE + registers::STREAM_SIZE * index + registers::FMT,
         );
@@ -134,19 +127,11 @@ fn last_same(device: &[u8], host: Host, nanos: u64, longest: u64) -> u64
             nanos,
             end,
         );
-        index += 1;
     }
     end
 }
 
 // ---- Scratch
-
-// The lesser of two sizes.
-fn lesser(a: usize, b: usize) -> usize
-    ensures { result ≡ min a b }
-{
-    if a < b { a } else { b }
-}
 
 // `count` bytes of `from` from `at` on, or as many as there are, to the same place of `into`.
 fn window(from: &[u8], at: u64, count: usize, into: &mut [u8])
@@ -158,7 +143,7 @@ fn window(from: &[u8], at: u64, count: usize, into: &mut [u8])
         return;
     }
     let start = at as usize;
-    let n = lesser(count, size - start);
+    let n = count.min(size - start);
     let end = start + n;
     word::copy(&from[start..end], &mut into[start..end]);
 }
@@ -168,7 +153,7 @@ fn base(regs: &[u8], at: usize) -> u64
     requires { at + 8 ≤ length regs.now }
     ensures { result ≡ word_at 8 at regs.now / 128 * 128 }
 {
-    word::get64(regs, at) / 128 * 128
+    word::get::<u64>(regs, at) / 128 * 128
 }
 
 // Every stream's descriptor list.
@@ -176,15 +161,12 @@ fn descriptor_lists(regs: &[u8], memory: &[u8], into: &mut [u8])
     requires { (size ≤ length regs.now) × (length into.old ≡ length memory.now) }
     ensures { into.new ≡ windows_of (list_at regs.now) (λ i. list_window) memory.now into.old }
 {
-    let count = STREAMS;
-    let mut index = 0;
-    while index < count {
+    for index in 0..STREAMS {
         let list = base(
             regs,
             registers::STREAM_BASE + registers::STREAM_SIZE * index + registers::BDPL,
         );
         window(memory, list, LIST_WINDOW, into);
-        index += 1;
     }
 }
 
@@ -203,9 +185,7 @@ fn pending(device: &[u8], lists: &[u8], into: &mut [u8])
     requires { (length device.now ≡ device_size) × (length into.old ≡ length lists.now) }
     ensures { into.new ≡ pending_of (device_at device.now) lists.now into.old }
 {
-    let count = STREAMS;
-    let mut index = 0;
-    while index < count {
+    for index in 0..STREAMS {
         let s = record::load_stream(device, record::HEAD + record::NUMBERS * index);
         window(
             lists,
@@ -213,7 +193,6 @@ fn pending(device: &[u8], lists: &[u8], into: &mut [u8])
             8 * (s.pending as usize),
             into,
         );
-        index += 1;
     }
 }
 
@@ -242,15 +221,9 @@ fn counts(device: &[u8]) -> [u64; STREAMS]
     requires { length device.now ≡ device_size }
     ensures { Counted result (device_at device.now) }
 {
-    let mut found = [0; STREAMS];
-    let count = STREAMS;
-    let mut index = 0;
-    while index < count {
-        let s = record::load_stream(device, record::HEAD + record::NUMBERS * index);
-        found[index] = s.submitted;
-        index += 1;
-    }
-    found
+    array::from_fn(|index| {
+        record::load_stream(device, record::HEAD + record::NUMBERS * index).submitted
+    })
 }
 
 // The counts after `advance` on a copy of the record.
@@ -294,18 +267,9 @@ fn case(
 fn widened(spread: Spread, found: [u64; STREAMS]) -> Spread
     ensures { Widened result spread found }
 {
-    let mut lowest = [0; STREAMS];
-    let mut highest = [0; STREAMS];
-    let count = STREAMS;
-    let mut index = 0;
-    while index < count {
-        lowest[index] = word::least(spread.lowest[index], found[index]);
-        highest[index] = word::greatest(spread.highest[index], found[index]);
-        index += 1;
-    }
     Spread {
-        lowest: lowest,
-        highest: highest,
+        lowest: array::from_fn(|index| spread.lowest[index].min(found[index])),
+        highest: array::from_fn(|index| spread.highest[index].max(found[index])),
     }
 }
 
@@ -334,6 +298,7 @@ fn walk(
         lowest: first,
         highest: first,
     };
+    // From one run of times to the next: there is no range of them to go over.
     while last < longest {
         let at = last + 1;
         let end = last_same(device, host, at, longest);
@@ -359,12 +324,10 @@ fn is_short(memory: usize, lists2: usize, queues2: usize, memory2: usize, into: 
 fn switched_off(host: Host) -> Host
     ensures { result ≡ without_switches host }
 {
-    let queues = host.queues;
     Host {
         playback: false,
         capture: false,
-        downstream: host.downstream,
-        queues: queues,
+        ..host
     }
 }
 
@@ -405,14 +368,9 @@ fn put_result(spread: Spread, into: &mut [u8])
     requires { result_size ≤ length into.old }
     ensures { into.new ≡ rows_of (λ i. get_or spread.lowest i 0) (λ i. get_or spread.highest i 0) into.old }
 {
-    let count = STREAMS;
-    let mut index = 0;
-    while index < count {
-        let low = spread.lowest[index];
-        let high = spread.highest[index];
-        word::put64(into, ROW * index, low);
-        word::put64(into, ROW * index + 8, high);
-        index += 1;
+    for index in 0..STREAMS {
+        word::put::<u64>(into, ROW * index, spread.lowest[index]);
+        word::put::<u64>(into, ROW * index + 8, spread.highest[index]);
     }
 }
 
@@ -425,7 +383,7 @@ fn answer(device: &[u8], number: u32, count: u32) -> Bounded
     Bounded {
         number: s.number,
         level: s.level,
-        count: count,
+        count,
     }
 }
 
@@ -433,9 +391,9 @@ fn answer(device: &[u8], number: u32, count: u32) -> Bounded
 fn clear(lists2: &mut [u8], queues2: &mut [u8], memory2: &mut [u8])
     ensures { scratch lists2.new queues2.new memory2.new ≡ cleared_of (scratch lists2.old queues2.old memory2.old) }
 {
-    read::clear(lists2);
-    read::clear(queues2);
-    read::clear(memory2);
+    lists2.fill(0);
+    queues2.fill(0);
+    memory2.fill(0);
 }
 
 // Behind the tests.
@@ -481,12 +439,11 @@ pub fn bounds(
     requires { (length device.now ≡ device_size) × (is_device device.now ≡ true) }
     ensures { bounding_of result (scratch lists2.new queues2.new memory2.new) into.new ≡ bounds_of shortest longest (machine (device_at device.now) host lists.now queues.now memory.now) (scratch lists2.old queues2.old memory2.old) into.old }
 {
-    let number = read::check(device, host, lists, queues.len());
-    if number != 0 {
-        return answer(device, number, 0);
+    if let Err(refusal) = read::check(device, host, lists, queues.len()) {
+        return answer(device, refusal.number(), 0);
     }
     if longest < shortest {
-        return answer(device, 21, 0);
+        return answer(device, Refusal::Reversed.number(), 0);
     }
     if is_short(
         memory.len(),
@@ -495,7 +452,7 @@ pub fn bounds(
         memory2.len(),
         into.len(),
     ) {
-        return answer(device, 14, 0);
+        return answer(device, Refusal::ShortSpace.number(), 0);
     }
     bounds_step(
         device, host, lists, queues, memory, shortest, longest, lists2, queues2, memory2, into,

@@ -1,12 +1,10 @@
 -- What each C function over a leaf returns and leaves in the bytes lent to it, for any bytes of any lengths.
-use Rattle.std.specs.Prelude.{ℕ, cond, not, ◌||◌, List, length, eqb, ltb}
+use Rattle.std.specs.Prelude.{ℕ, cond, not, ◌||◌, List, length, eqb, ltb, Option, None, Some}
 use Rattle.word.specs.Place.{word_at, store_at}
 use Rattle.gain.specs.Gain.{gain_of, amplified_of, one_pass_of, two_steps_of}
 use Rattle.clock.specs.declared.Clock.{Clock}
 use Rattle.clock.specs.Clock.{advance_of}
 use Rattle.codec.specs.declared.Outcome.{Outcome}
-use Rattle.codec.specs.declared.Reply.{Reply}
-use Rattle.codec.specs.declared.Reply.TheVariants.{Nothing, Value}
 use Rattle.codec.specs.Codecs.{verb_of, connected_of}
 use Rattle.codec.specs.Bytes.{codec_at, store_codec_at}
 
@@ -64,9 +62,9 @@ abbrev pub verb_call_of : ℕ → List ℕ → List ℕ → VerbCall
 verb_call_of number codec reply = record { number = number; codec = codec; reply = reply }
 
 -- no reply: 0, and the bytes as they were; a reply: 1, and its word in the first four
-abbrev pub replied_of : Reply → List ℕ → Call
-replied_of Nothing l = call_of 0 l
-replied_of (Value v) l = call_of 1 (store_at 4 0 v l)
+abbrev pub replied_of : Option ℕ → List ℕ → Call
+replied_of None l = call_of 0 l
+replied_of (Some v) l = call_of 1 (store_at 4 0 v l)
 
 -- a command's outcome, in the two buffers
 abbrev pub answered_of : Outcome → List ℕ → List ℕ → VerbCall

@@ -15,8 +15,7 @@ use Rattle.word.proofs.Place.{word_bound}
 use Rattle.word.proofs.Each.{each_keeps}
 use Rattle.clock.specs.declared.Clock.{Clock}
 use Rattle.clock.specs.Clock as clock
-use Rattle.format.specs.declared.Format.{Format}
-use Rattle.format.specs.declared.Format.TheVariants.{Unsupported, Rate}
+use Rattle.std.specs.Prelude.{Option, None, Some}
 use Rattle.format.specs.Format.{format_of}
 use Rattle.codec.specs.WellFormed.{WellFormed}
 use Rattle.codec.proofs.WellFormed.{fresh-well-formed}
@@ -185,9 +184,9 @@ module _ (i : ℕ) where
   unfolding halted_of
   halted-whole x w = record { stream = timed-counts x.attached.stream _ w.stream; host = closed-typed x.attached.host w.host }
 
-  started-by : (microphone : Bool) (x : Channel) → Whole x → (f : Format) → Whole (started_by microphone i x f)
-  started-by microphone x w Unsupported = error-whole x w
-  started-by microphone x w (Rate rate) =
+  started-by : (microphone : Bool) (x : Channel) → Whole x → (f : Option ℕ) → Whole (started_by microphone i x f)
+  started-by microphone x w None = error-whole x w
+  started-by microphone x w (Some rate) =
       by_cond Whole (open_stream_of x.attached.host microphone i).ok _ _
       (λ _. record { stream = w.stream; host = open-stream-typed x.attached.host microphone i w.host }) (λ _. error-whole x w)
 

@@ -12,8 +12,7 @@ use Rattle.word.proofs.Place.{word_bound}
 use Rattle.stream.specs.Box.{streams}
 use Rattle.queue.specs.Queues.{closed}
 use Rattle.host.specs.declared.Host.{Host}
-use Rattle.driver.specs.declared.Set.{Set}
-use Rattle.driver.specs.Calls.{playback_fails_of, capture_fails_of, downstream_of}
+use Rattle.driver.specs.Calls.{Set, playback_fails_of, capture_fails_of, downstream_of}
 use Rattle.device.specs.Machines.{Machine, Done}
 use Rattle.write.specs.Writes.{write_of}
 use Rattle.hda.specs.Calls.{bar_write_of, config_write_of, pin_of}

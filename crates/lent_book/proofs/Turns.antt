@@ -12,8 +12,7 @@ use Rattle.word.specs.Shift.{shift_of}
 use Rattle.word.proofs.Choices.{by_cond}
 use Rattle.word.proofs.Value.{bytes-bound}
 use Rattle.word.proofs.Lists.{bytes_take, bytes_drop, bytes-append, bytes-zeros, set_keeps}
-use Rattle.format.specs.declared.Format.{Format}
-use Rattle.format.specs.declared.Format.TheVariants.{Unsupported, Rate}
+use Rattle.std.specs.Prelude.{Option, None, Some}
 use Rattle.format.specs.Format.{format_of}
 use Rattle.gain.specs.Gain.{gain_of}
 use Rattle.gain.proofs.Laws.{amplified-bytes}
@@ -36,8 +35,7 @@ use Rattle.queue.specs.declared.Queue.{Queue}
 use Rattle.queue.specs.Queues.{capacity, queue, closed, latency_of, Moved, moved_of, fitting_of, put_of, take_of}
 use Rattle.transfer.specs.Transfers.{Transfer, transfer_out, with_pieces, silence, taken_of, captured_of, heard_of, capture_of, playback_of, transfer_of}
 use Rattle.host.specs.declared.Host.{Host}
-use Rattle.host.specs.declared.Opening.{Opening}
-use Rattle.host.specs.Hosts.{queue_at, with_queue, fails_of, opening_of, open_of}
+use Rattle.host.specs.Hosts.{Opening, queue_at, with_queue, fails_of, opening_of, open_of}
 use Rattle.registers.specs.Places.{fmt}
 use Rattle.turn.specs.declared.Setup.{Setup}
 use Rattle.turn.specs.declared.Engine.{Engine}
@@ -266,12 +264,12 @@ module _ (regs : List ℕ) (codec : Codec) (h : Host) (microphone : Bool) (i nan
   live : (h' : Host) → TypedHost h' → Live s (queue_at h' i) part m
   live h' t' = record { counts = counts; queued = t'.lengths i few; part = bytes; memory = memory }
 
-  formatted-turned : (f : Format) → Turned (formatted_of regs codec h microphone i nanos limit s l part m f)
-  formatted-turned Unsupported =
+  formatted-turned : (f : Option ℕ) → Turned (formatted_of regs codec h microphone i nanos limit s l part m f)
+  formatted-turned None =
       let e = engine_of regs h i s in
       let k = stopped-live e part m (live h t) in
       record { counts = k.counts; host = with-queue-typed h i (stopped_of e).queue k.queued t; part = k.part; memory = k.memory }
-  formatted-turned (Rate rate) =
+  formatted-turned (Some rate) =
       let o = open_stream_of h microphone i in
       let u = open-stream-typed h microphone i t in
       let e = engine_of regs o.host i s in

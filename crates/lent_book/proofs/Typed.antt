@@ -20,8 +20,7 @@ use Rattle.queue.specs.Queues.{capacity, put_of, take_of, take_into_of}
 use Rattle.host.specs.declared.Host.{Host}
 use Rattle.host.specs.Hosts as hosts
 use Rattle.host.specs.Hosts.{queue_at, valid_downstream}
-use Rattle.driver.specs.declared.Set.{Set}
-use Rattle.driver.specs.Calls.{capture_stream, playback_stream, frame_check_of, Feed, feed_of, Pull, pull_of, playback_fails_of, capture_fails_of, downstream_of}
+use Rattle.driver.specs.Calls.{Set, capture_stream, playback_stream, frame_check_of, Feed, feed_of, Pull, pull_of, playback_fails_of, capture_fails_of, downstream_of}
 use Rattle.registers.specs.Places.{gctl, byte_at, has, dma_of}
 use Rattle.turn.specs.Turns.{turn_of}
 use Rattle.device.specs.declared.Hda.{Hda}

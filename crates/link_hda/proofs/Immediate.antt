@@ -16,8 +16,7 @@ use Rattle.word.proofs.Choices.{by-test, neither, by_bit, chosen}
 use Rattle.word.proofs.Lists.{drop-take}
 use Rattle.word.proofs.Value.{length-bytes}
 use Rattle.codec.specs.declared.Codec.{Codec}
-use Rattle.codec.specs.declared.Reply.{Reply}
-use Rattle.codec.specs.declared.Reply.TheVariants.{Nothing, Value}
+use Rattle.std.specs.Prelude.{Option as Reply, Some as Value, None as Nothing}
 use Rattle.codec.specs.Codecs.{verb_of}
 use Rattle.registers.specs.Places.{icis}
 use Rattle.immediate.specs.Immediate.{immediately, immediate_allowed, replied_of, immediate_of}
@@ -111,7 +110,7 @@ module _ (regs : List ℕ) (f : File regs) (written : ℕ) where
   room : icis < length regs
   room = let size = f.size in omega arith
 
-  replied : (codec : Codec) (reply : Reply) → replied_of (set regs icis kept) codec reply ≡ answered_of regs codec written reply
+  replied : (codec : Codec) (reply : Reply ℕ) → replied_of (set regs icis kept) codec reply ≡ answered_of regs codec written reply
   replied codec Nothing = rw (get_or-set_same regs icis kept 0 room, set-set regs icis kept _, busy-set status (is_valid status && not (bit 2 written)) (is_busy status))
   replied codec (Value v) = ap (λ (l : List ℕ). immediately l codec) (store-over 4 0x64 v 2 kept regs room)
 

@@ -4,8 +4,7 @@ use Rattle.std.specs.Prelude.{ℕ, ◌+◌, ◌*◌, ◌/◌, Bool, true, false,
 use Rattle.std.proofs.Math.Option.{Option, none, some}
 use Rattle.word.specs.Place.{word_at, store_at}
 use Rattle.codec.specs.declared.Codec.{Codec}
-use Rattle.codec.specs.declared.Reply.{Reply}
-use Rattle.codec.specs.declared.Reply.TheVariants.{Nothing, Value}
+use Rattle.std.specs.Prelude.{Option as Reply, Some as Value, None as Nothing}
 use Rattle.codec.specs.Codecs.{verb_of}
 use Rattle.immediate.specs.Immediate.{Immediate, immediately}
 use Rattle.rings_hda.specs.Hda.{bit}
@@ -30,7 +29,7 @@ abbrev pub with_response : List ℕ → Codec → ℕ → Immediate
 with_response regs codec value = immediately (set (store_at 4 0x64 value regs) 0x68 (0 * 16 + 2)) codec
 
 -- with no response the command stays busy
-abbrev pub answered_of : List ℕ → Codec → ℕ → Reply → Immediate
+abbrev pub answered_of : List ℕ → Codec → ℕ → Reply ℕ → Immediate
 answered_of regs codec written Nothing = without_response regs codec written true
 answered_of regs codec written (Value value) = with_response regs codec value
 

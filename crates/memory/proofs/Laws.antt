@@ -1,18 +1,16 @@
 -- What the definitions of guest memory say, and what a copy out of memory or into it comes to. Assumes nothing.
-use Prim.Native.Nat.{ℕ, ◌+◌, ◌-◌, ◌%◌, ◌≤◌, ◌<◌}
-use mathlib.Core.Path.{◌≡◌, refl, sym, ap, ◌∙◌}
-use mathlib.Core.List.{List, ◌++◌}
+use Prim.Native.Nat.{ℕ, ◌+◌, ◌%◌, ◌≤◌, ◌<◌}
+use mathlib.Core.Path.{◌≡◌, refl, ap, ◌∙◌}
+use mathlib.Core.List.{List}
 use mathlib.Core.Bool.{Bool, true, false, cond}
 use mathlib.Core.Logic.{◌⊎◌}
 use native.Mathlib.Omega.{arith}
 use borrow.Author.Tests.{leb-true, leb-false, le-leb, lt-leb}
 use lib.ListN.{length, take, drop, get_or}
-use lib.Seq.{drop-drop}
 use Rattle.word.specs.Place.{put_at}
-use Rattle.word.proofs.Lists.{length_part, part_count, copied-whole}
-use Rattle.word.proofs.Put.{length-put, put-there, put-part-elsewhere, put-byte-elsewhere}
+use Rattle.word.proofs.Puts.{length-put, put-there, put-part-elsewhere, put-byte-elsewhere}
 use Rattle.word.proofs.Place.{word-join, word_byte}
-use Rattle.memory.specs.declared.Fetched.TheVariants.{Outside, Entry}
+use Rattle.std.specs.Prelude.{None, Some}
 use Rattle.memory.specs.Memory.{Access, access_of, inside_of, read_of, write_of, entry_at, descriptor_of}
 
 -- an access inside memory, and one that crosses its end
@@ -34,11 +32,11 @@ module _ (m : List ℕ) (address : ℕ) (bs : List ℕ) where
   write-outside h = rw (lt-leb (address + length bs) (length m) h)
 
 module _ (m : List ℕ) (address : ℕ) where
-  pub descriptor-inside : address + 16 ≤ length m → descriptor_of m address ≡ Entry (entry_at m address)
+  pub descriptor-inside : address + 16 ≤ length m → descriptor_of m address ≡ Some (entry_at m address)
   unfolding descriptor_of
   descriptor-inside h = rw (le-leb (address + 16) (length m) h)
 
-  pub descriptor-outside : length m < address + 16 → descriptor_of m address ≡ Outside
+  pub descriptor-outside : length m < address + 16 → descriptor_of m address ≡ None
   unfolding descriptor_of
   descriptor-outside h = rw (lt-leb (address + 16) (length m) h)
 
@@ -47,25 +45,6 @@ module _ (m : List ℕ) (address : ℕ) where
   unfolding entry_at
   flags-byte h =
       omega (arith, word-join 1 (address + 12) m (omega arith) 3, word_byte (address + 12) m (omega arith))
-
-module _ (m : List ℕ) (address : ℕ) (bs : List ℕ) (fits : address + length bs ≤ length m) where
-  -- a part of memory copied over all of `bs`
-  pub copied-out : (l p : List ℕ) → p ≡ take (address + length bs - address) (drop address m)
-      → l ≡ take (length p) p ++ drop (length p) bs → access_of true l ≡ read_of m address bs
-  copied-out l p ep e =
-      let is : p ≡ take (length bs) (drop address m) = ep ∙ part_count (length bs) address m in
-      let short : length bs ≤ length p = omega (arith, ap length is, length_part (length bs) address m fits) in
-      ap (access_of true) (copied-whole p bs l short e ∙ is) ∙ sym (read-inside m address bs fits)
-
-  -- all of `bs` copied over a part of memory
-  pub copied-in : (l : List ℕ) → l ≡ take (length bs) bs ++ drop (length bs) (take (address + length bs - address) (drop address m))
-      → access_of true (take address m ++ (l ++ drop (address + length bs - address) (drop address m))) ≡ write_of m address bs
-  unfolding put_at
-  copied-in l e =
-      let p : List ℕ = take (address + length bs - address) (drop address m) in
-      let short : length p ≤ length bs = omega (arith, ap length (part_count (length bs) address m), length_part (length bs) address m fits) in
-      let k : address + (address + length bs - address) ≡ address + length bs = omega arith in
-      rw (copied-whole bs p l short e, drop-drop (address + length bs - address) address m, k) (sym (write-inside m address bs fits))
 
 -- what holds of both outcomes of a write holds of it
 pub write-cases : (m : List ℕ) (address : ℕ) (bs : List ℕ) (P : Access → Type 0)

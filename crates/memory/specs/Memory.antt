@@ -1,10 +1,8 @@
 -- Guest memory: one lent buffer from guest address 0 (document 01, Host end, added). An access that crosses its end moves nothing
 -- (document 01, Where port and Rust part). Sums are sums of naturals, so an address that would overflow 64 bits is simply outside.
-use Rattle.std.specs.Prelude.{ℕ, ◌+◌, List, Bool, true, false, cond, length, take, drop, leb}
+use Rattle.std.specs.Prelude.{ℕ, ◌+◌, List, Bool, true, false, cond, length, take, drop, leb, Option, None, Some}
 use Rattle.word.specs.Place.{put_at, word_at}
 use Rattle.memory.specs.declared.Descriptor.{Descriptor}
-use Rattle.memory.specs.declared.Fetched.{Fetched}
-use Rattle.memory.specs.declared.Fetched.TheVariants.{Outside, Entry}
 
 -- what an access leaves: whether it moved, and the bytes that it may write (the reader's for a read, guest memory for a write)
 pub record Access : Type 0 where
@@ -33,7 +31,7 @@ unfoldable pub entry_at : List ℕ → ℕ → Descriptor
 entry_at m address =
     record { address = word_at 8 address m; length = word_at 4 (address + 8) m; flags = word_at 4 (address + 12) m }
 
--- the buffer descriptor at `address` (document 01, Stream transfer). `Outside`: "memory or an address runs out", the transfer fails.
--- `Entry`: the descriptor as read for this piece.
-unfoldable pub descriptor_of : List ℕ → ℕ → Fetched
-descriptor_of m address = cond (inside_of m address 16) (Entry (entry_at m address)) Outside
+-- the buffer descriptor at `address` (document 01, Stream transfer). `None`: "memory or an address runs out", the transfer fails.
+-- `Some`: the descriptor as read for this piece.
+unfoldable pub descriptor_of : List ℕ → ℕ → Option Descriptor
+descriptor_of m address = cond (inside_of m address 16) (Some (entry_at m address)) None

@@ -9,6 +9,7 @@ ghost use Rattle.node.specs.Nodes.{put_if, put_sides, set_amplifier_of, amplifie
 const SUPPORTED_PCM: u32 = 0x0002_01e0;
 
 // What parameter `p` of `node` replies (the Rust's `Codec::parameter`, with T-01's rates).
+#[tactic(auto, unfolding(crate::specs::Parameters::parameter_of))]
 pub fn parameter(node: u32, p: u32) -> u32
     ensures { result ≡ parameter_of node p }
 {
@@ -67,13 +68,13 @@ pub fn parameter(node: u32, p: u32) -> u32
 // A node's record: input amplifier left and right (0, 1), output amplifier left and right (2, 3), connection (4), power state (5),
 // stream and channel (6), pin control (7), unsolicited response (8), EAPD (9), format (10, 11), configuration default (12 to 15), and
 // eight bytes that no verb reaches.
-#[derive(Clone, Copy)]
+#[derive(Clone, Copy, PartialEq, Eq, Debug)]
 pub struct Node {
     pub bytes: [u8; 24],
 }
 
 // A node after a command, and what it replied.
-#[derive(Clone, Copy)]
+#[derive(Clone, Copy, PartialEq, Eq, Debug)]
 pub struct Answer {
     pub node: Node,
     pub value: u32,
@@ -83,19 +84,17 @@ pub struct Answer {
 fn power(x: u8) -> u32
     ensures { result ≡ x * 0x11 }
 {
-    (x as u32) * 0x11
+    u32::from(x) * 0x11
 }
 
 // The connection lists: the output pin hears node 2, the input converter node 5.
+#[tactic(auto, unfolding(crate::specs::Nodes::entry_of))]
 fn entry(node: u32, first: u8) -> u32
     ensures { result ≡ entry_of node first }
 {
-    if first != 0 {
-        return 0;
-    }
-    match node {
-        3 => 2,
-        4 => 5,
+    match (node, first) {
+        (3, 0) => 2,
+        (4, 0) => 5,
         _ => 0,
     }
 }
@@ -122,6 +121,7 @@ impl Node {
     }
 
     // Payload bit 15 names the output side, bit 14 the input side beside it. Without bit 15 the input side is written, named or not.
+    #[tactic(auto, unfolding(crate::specs::Nodes::set_amplifier_of))]
     fn set_amplifier(self, payload: u32, v: u8) -> Node
         ensures { result ≡ set_amplifier_of self payload v }
     {
@@ -138,11 +138,12 @@ impl Node {
     }
 
     // Payload bit 15 set is the output side, bit 13 set is left.
+    #[tactic(auto, unfolding(crate::specs::Nodes::amplifier_of))]
     fn amplifier(self, payload: u32) -> u32
         ensures { result ≡ amplifier_of self payload }
     {
         let at = (payload / 0x8000 % 2 * 2 + (1 - payload / 0x2000 % 2)) as usize;
-        word::wide(self.bytes[at])
+        u32::from(self.bytes[at])
     }
 
     // The low byte stands first.
@@ -150,8 +151,7 @@ impl Node {
         requires { payload < 0x0001_0000 }
         ensures { result ≡ set_format_of self payload }
     {
-        self.bytes[10] = (payload % 256) as u8;
-        self.bytes[11] = (payload / 256) as u8;
+        word::put::<u16>(&mut self.bytes, 10, payload as u16);
         self
     }
 
@@ -159,10 +159,11 @@ impl Node {
     pub fn format(self) -> u16
         ensures { result ≡ format_of self }
     {
-        word::get16(&self.bytes, 10)
+        word::get::<u16>(&self.bytes, 10)
     }
 
     // The verbs 0x7xx: they change the record and reply 0.
+    #[tactic(auto, unfolding(crate::specs::Nodes::set_of))]
     fn set(mut self, verb: u32, payload: u8) -> Node
         ensures { result ≡ set_of self verb payload }
     {
@@ -180,66 +181,67 @@ impl Node {
     }
 
     // The verbs 0xfxx: they reply and change nothing.
+    #[tactic(auto, unfolding(crate::specs::Nodes::get_of))]
     fn get(self, node: u32, verb: u32, payload: u8) -> u32
         ensures { result ≡ get_of self node verb payload }
     {
         match verb {
-            0xf01 => word::wide(self.bytes[4]),
+            0xf01 => u32::from(self.bytes[4]),
             0xf02 => entry(node, payload),
             0xf05 => power(self.bytes[5]),
-            0xf06 => word::wide(self.bytes[6]),
-            0xf07 => word::wide(self.bytes[7]),
-            0xf08 => word::wide(self.bytes[8]),
+            0xf06 => u32::from(self.bytes[6]),
+            0xf07 => u32::from(self.bytes[7]),
+            0xf08 => u32::from(self.bytes[8]),
             0xf09 => 0x8000_0000,
-            0xf0c => word::wide(self.bytes[9]),
-            0xf1c => word::get32(&self.bytes, 12),
+            0xf0c => u32::from(self.bytes[9]),
+            0xf1c => word::get::<u32>(&self.bytes, 12),
             0xf20 => 0x1af4_0022,
             _ => 0,
         }
     }
 
     // A command to one of the nodes 1 to 5.
+    #[tactic(auto, unfolding(crate::specs::Nodes::node_verb_of))]
     pub fn verb(self, node: u32, command: u32) -> Answer
         ensures { result ≡ node_verb_of self node command }
     {
         let payload = (command % 256) as u8;
         let wide = command % 0x0001_0000;
         match command / 0x0001_0000 % 16 {
-            0x2 => {
-                let n = self.set_format(wide);
-                Answer { node: n, value: 0 }
-            }
-            0x3 => {
-                let n = self.set_amplifier(wide, payload);
-                Answer { node: n, value: 0 }
-            }
-            0xa => {
-                let value = self.format() as u32;
-                Answer { node: self, value }
-            }
-            0xb => {
-                let value = self.amplifier(wide);
-                Answer { node: self, value }
-            }
+            0x2 => Answer {
+                node: self.set_format(wide),
+                value: 0,
+            },
+            0x3 => Answer {
+                node: self.set_amplifier(wide, payload),
+                value: 0,
+            },
+            0xa => Answer {
+                node: self,
+                value: u32::from(self.format()),
+            },
+            0xb => Answer {
+                node: self,
+                value: self.amplifier(wide),
+            },
             _ => {
                 let verb = command / 256 % 4096;
-                let n = self.set(verb, payload);
-                let value = self.get(node, verb, payload);
-                Answer { node: n, value }
+                Answer {
+                    node: self.set(verb, payload),
+                    value: self.get(node, verb, payload),
+                }
             }
         }
     }
 
     // A node's record at reset: both amplifiers muted at 0 dB, EAPD on, 48,000 16-bit stereo, and the pin's control and the low three bytes
     // of its configuration default.
+    #[tactic(auto, unfolding(crate::specs::Nodes::fresh_node_of))]
     pub fn fresh(pin: u8, a: u8, b: u8, c: u8) -> Node
         ensures { result ≡ fresh_node_of pin a b c }
     {
         let mut bytes = [0u8; 24];
-        bytes[0] = 0xca;
-        bytes[1] = 0xca;
-        bytes[2] = 0xca;
-        bytes[3] = 0xca;
+        bytes[..4].fill(0xca);
         bytes[7] = pin;
         bytes[9] = 2;
         bytes[10] = 0x11;

@@ -5,24 +5,28 @@ use mathlib.Core.Bool.{Bool, true, false, cond, ◌&&◌, not-not}
 use mathlib.Core.List.{List}
 use native.Mathlib.Omega.{arith}
 use native.Mathlib.Numerals.{add-one}
-use borrow.Author.Tests.{ltb-false, le-ltb, le-leb, eqb-true, eqb-false, eq-eqb, ne_eqb}
+use borrow.Author.Tests.{ltb-false, le-ltb, le-leb, eqb-true, eqb-false, ne_eqb}
 use lib.Bits.{bit_and}
 use lib.ListN.{length, take, drop, length-drop}
 use lib.Seq.{take_all}
 use lib.Dec.{eqb, lit<}
+use Rattle.std.specs.Prelude.{⊤, Result, Ok, Err}
+use Rattle.refusal.specs.declared.Refusal.{Refusal}
+use Rattle.refusal.specs.Refusals.{outcome_of, number_of}
+use Rattle.refusal.proofs.Laws.{number-nonzero}
 use Rattle.word.specs.Place.{word_at}
 use Rattle.word.specs.Each.{each_of, further}
 use Rattle.word.proofs.Choices.{if-true, if-false}
 use Rattle.word.proofs.Each.{each_step, each-stop}
-use Rattle.format.specs.Format.{format_of, number_of}
+use Rattle.format.specs.Format as format
+use Rattle.format.specs.Format.{format_of}
 use Rattle.positions.specs.Positions.{positions_of, rises_of}
 use Rattle.stream.specs.declared.Stream.{Stream}
 use Rattle.stream.specs.Streams.{places, valid_of, uncrowded_of}
 use Rattle.registers.specs.Places.{ctl, fmt, byte_at}
 use Rattle.record.specs.Layout.{numbers_size}
 use Rattle.record.specs.Loads.{stream_at}
-use Rattle.parse.specs.declared.Step.{Step}
-use Rattle.parse.specs.States.{list_number, format_number, counts_number, crowd_number, stream_number, step_out, stepped_of, step_at, goes_on, place_of}
+use Rattle.parse.specs.States.{Step, stepped_by, list_number, format_number, counts_number, crowd_number, stream_number, step_out, stepped_of, step_at, goes_on, place_of}
 use Rattle.parse.proofs.Choices.{both-pass, holds, fails}
 use Rattle.parse.proofs.Fields.{run-cases}
 
@@ -50,7 +54,7 @@ module _ (s : List ℕ) (i base : ℕ) {raw : ℕ} (place : base ≡ 390 + 32 * 
   abbrev idle : Bool
   idle = eqb raw 0 && eqb (bit_and (byte_at s base) 2) 0
 
-  format-same : cond idle 0 (number_of (format_of raw)) ≡ format_number s i
+  format-same : cond idle 0 (format.number_of (format_of raw)) ≡ format_number s i
   unfolding format_number
   format-same =
       let word : 262 + fmt i ≡ base + 18 = omega (arith, place) in
@@ -58,10 +62,10 @@ module _ (s : List ℕ) (i base : ℕ) {raw : ℕ} (place : base ≡ 390 + 32 * 
       rw (word, control, ← e, not-not)
 
   pub format-idle : idle ≡ true → 0 ≡ format_number s i
-  format-idle h = if-true 0 (number_of (format_of raw)) h refl ∙ format-same
+  format-idle h = if-true 0 (format.number_of (format_of raw)) h refl ∙ format-same
 
-  pub format-set : idle ≡ false → {number : ℕ} → number ≡ number_of (format_of raw) → number ≡ format_number s i
-  format-set h d = d ∙ if-false 0 (number_of (format_of raw)) h refl ∙ format-same
+  pub format-set : idle ≡ false → {number : ℕ} → number ≡ format.number_of (format_of raw) → number ≡ format_number s i
+  format-set h d = d ∙ if-false 0 (format.number_of (format_of raw)) h refl ∙ format-same
 
 -- a list that is there: its spacing decides. The code reads it in the part of the state from `at` to the end
 module _ (s : List ℕ) (t : Stream) (at : ℕ) {free : Bool} (e : free ≡ uncrowded_of t (take (length s - at) (drop at s))) where
@@ -75,16 +79,19 @@ module _ (s : List ℕ) (t : Stream) (at : ℕ) {free : Bool} (e : free ≡ uncr
   pub crowd-close : free ≡ false → 20 ≡ crowd_number s t at
   crowd-close h = if-false 0 20 h refl ∙ crowd-same
 
--- what the number of a stream with record `t` makes of its step
-module _ (strict : Bool) (s : List ℕ) (i at next : ℕ) {t : Stream} {number : ℕ} (loaded : t ≡ stream_at at s) (e : number ≡ stream_number strict s t next i) where
-  abbrev Stepped : ℕ → Stream → Type 0
-  Stepped end u = step_out number end ≡ stepped_of (stream_number strict s u next i) at (next + 8 * u.pending)
+-- what the outcome of stream `u` makes of its step
+abbrev Makes : Bool → List ℕ → ℕ → ℕ → ℕ → Result ℕ Refusal → Stream → Type 0
+Makes strict s i at next out u = stepped_by at out ≡ stepped_of (stream_number strict s u next i) at (next + 8 * u.pending)
 
-  pub step-refused : (number ≡ 0 → ⊥) → Stepped at (stream_at at s)
-  step-refused h = subst (Stepped at) loaded (rw (← e, ne_eqb number 0 h))
+-- that of a stream with record `t`
+module _ (strict : Bool) (s : List ℕ) (i at next : ℕ) {t : Stream} {o : Result ⊤ Refusal} (loaded : t ≡ stream_at at s) (e : outcome_of o ≡ stream_number strict s t next i) where
+  pub step-refused : {r : Refusal} → o ≡ Err r → {out : Result ℕ Refusal} → out ≡ Err r → Makes strict s i at next out (stream_at at s)
+  step-refused {r} h {out} same =
+      let told = sym e ∙ ap outcome_of h in
+      subst (Makes strict s i at next out) loaded (ap (stepped_by at) same ∙ rw (told, ne_eqb (number_of r) 0 (number-nonzero r (number_of r) refl)))
 
-  pub step-passed : number ≡ 0 → Stepped (next + 8 * t.pending) (stream_at at s)
-  step-passed h = subst (Stepped (next + 8 * t.pending)) loaded (rw (← e, eq-eqb number 0 h))
+  pub step-passed : {u : ⊤} → o ≡ Ok u → Makes strict s i at next (Ok (next + 8 * t.pending)) (stream_at at s)
+  step-passed h = subst (Makes strict s i at next (Ok (next + 8 * t.pending))) loaded (rw (sym e ∙ ap outcome_of h))
 
 -- what a stream that is taken tells
 pub record Listed (s : List ℕ) (t : Stream) (at : ℕ) : Type 0 where
@@ -156,18 +163,24 @@ module _ (strict : Bool) (s : List ℕ) (i at : ℕ) where
       (λ there z. (record { there = there; number = z }, rw (z, place)))
       (λ z. absurd (omega (arith, z)))
 
--- the loop: a stream that is taken, and one that is not; `r` is the code's step
-module _ (strict : Bool) (s : List ℕ) (count i n at : ℕ) (r : Step) (left : i + n ≡ count) (more : i < count) (e : r ≡ step_at strict s i (step_out 0 at)) where
-  pub loop-stop : (r.number ≡ 0 → ⊥) → each_of goes_on (step_at strict s) n i (step_out 0 at) ≡ r
-  loop-stop h = each-stop goes_on (step_at strict s) count i n (step_out 0 at) r left more e (ne_eqb r.number 0 h)
+-- the loop: a stream that is taken, and one that is not; `o` is what the code found of it
+module _ (strict : Bool) (s : List ℕ) (count i n at : ℕ) (o : Result ℕ Refusal) (left : i + n ≡ count) (more : i < count)
+    (e : stepped_by at o ≡ step_at strict s i (step_out 0 at)) where
+  pub loop-stop : {r : Refusal} → o ≡ Err r → (each_of goes_on (step_at strict s) n i (step_out 0 at)).number ≡ number_of r
+  loop-stop {r} h =
+      ap (λ (w : Step). w.number)
+      (each-stop goes_on (step_at strict s) count i n (step_out 0 at) (step_out (number_of r) at) left more (sym (ap (stepped_by at) h) ∙ e)
+      (ne_eqb (number_of r) 0 (number-nonzero r (number_of r) refl)))
 
-  module _ (z : r.number ≡ 0) where
-    pub loop-later : at ≤ r.next
-    loop-later = let k = step-taken strict s i at (ap (λ (w : Step). w.number) (sym e) ∙ z) in omega (arith, ap (λ (w : Step). w.next) (e ∙ k.1))
+  module _ {next : ℕ} (h : o ≡ Ok next) where
+    taken : step_out 0 next ≡ step_at strict s i (step_out 0 at)
+    taken = sym (ap (stepped_by at) h) ∙ e
 
-    pub loop-step : (k : ℕ) × (i + 1 + k ≡ count) × (each_of goes_on (step_at strict s) n i (step_out 0 at) ≡ each_of goes_on (step_at strict s) k (i + 1) (step_out 0 r.next))
-    loop-step =
-        each_step goes_on (step_at strict s) count i n (step_out 0 at) (step_out 0 r.next) left more (ap (λ (number : ℕ). step_out number r.next) (sym z) ∙ e) refl
+    pub loop-later : at ≤ next
+    loop-later = let k = step-taken strict s i at (ap (λ (w : Step). w.number) (sym taken)) in omega (arith, ap (λ (w : Step). w.next) (taken ∙ k.1))
+
+    pub loop-step : (k : ℕ) × (i + 1 + k ≡ count) × (each_of goes_on (step_at strict s) n i (step_out 0 at) ≡ each_of goes_on (step_at strict s) k (i + 1) (step_out 0 next))
+    loop-step = each_step goes_on (step_at strict s) count i n (step_out 0 at) (step_out 0 next) left more taken refl
 
 -- all streams taken: each stands behind the one before it
 go_on : (b : Bool) (y : Step) (rest : Step → Step) → goes_on y ≡ b → (further b y rest).number ≡ 0 → (y.number ≡ 0) × (further b y rest ≡ rest y)

@@ -12,8 +12,7 @@ use Rattle.word.specs.Place.{word_at}
 use Rattle.word.specs.Each.{each_of, further}
 use Rattle.word.proofs.Choices.{both, chosen, by_cond, by_both}
 use Rattle.clock.specs.Billionths.{billion}
-use Rattle.format.specs.declared.Format.{Format}
-use Rattle.format.specs.declared.Format.TheVariants.{Unsupported, Rate}
+use Rattle.std.specs.Prelude.{Option, None, Some}
 use Rattle.format.specs.Format.{format_of, number_of}
 use Rattle.positions.specs.Positions.{positions_of, rises_of}
 use Rattle.stream.specs.Streams.{places, valid_of, uncrowded_of}
@@ -23,8 +22,7 @@ use Rattle.registers.specs.Places.{ctl, fmt, byte_at, has}
 use Rattle.record.specs.Layout.{head_size, numbers_size}
 use Rattle.record.specs.Devices.{flag}
 use Rattle.record.specs.Loads.{marked_of, stream_at}
-use Rattle.parse.specs.declared.Step.{Step}
-use Rattle.parse.specs.States.{head_number, list_number, format_number, counts_number, crowd_number, stream_number, step_out, stepped_of, step_at, goes_on, streams_step, place_of, last_number, state_number}
+use Rattle.parse.specs.States.{Step, head_number, list_number, format_number, counts_number, crowd_number, stream_number, step_out, stepped_of, step_at, goes_on, streams_step, place_of, last_number, state_number}
 use Rattle.parse.proofs.Choices.{both-pass, holds}
 use Rattle.parse.proofs.Fields.{run-cases, field-cases, run-both}
 use Rattle.parse.proofs.Parts.{stream-fits, stream-format, stream-valid, stream-uncrowded, Placed, step-taken, place-next, all-taken}
@@ -147,9 +145,9 @@ module _ {P : Type 0} where
   first : {x rest : ℕ} → Returned P x → Returned P rest → Returned P (cond (eqb x 0) rest x)
   first {x} p q = either (eqb x 0) q p
 
-  of_format : (f : Format) → Returned P (number_of f)
-  of_format Unsupported = bad-format
-  of_format (Rate r) = done
+  of_format : (f : Option ℕ) → Returned P (number_of f)
+  of_format None = bad-format
+  of_format (Some r) = done
 
   format-returned : (w : ℕ) → Returned P (number_of (format_of w))
   format-returned w = of_format (format_of w)

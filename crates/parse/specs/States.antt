@@ -1,6 +1,6 @@
 -- Which saved states a device takes: restore's tests in reading order, 2 at the field that is cut (document 01, "Numbers returned"; the Rust's `restore_state`). Each
 -- definition gives document 01's number, 0 where the state is taken so far.
-use Rattle.std.specs.Prelude.{ℕ, zero, suc, ◌+◌, ◌-◌, ◌*◌, ◌/◌, Bool, cond, not, ◌&&◌, List, length, drop, eqb, leb, ltb}
+use Rattle.std.specs.Prelude.{ℕ, zero, suc, ◌+◌, ◌-◌, ◌*◌, ◌/◌, Bool, cond, not, ◌&&◌, List, length, drop, eqb, leb, ltb, ◌≡◌, None, Result, Ok, Err}
 use Rattle.word.specs.Place.{word_at}
 use Rattle.word.specs.Each.{each_of}
 use Rattle.clock.specs.Billionths.{billion}
@@ -10,17 +10,22 @@ use Rattle.stream.specs.declared.Stream.{Stream}
 use Rattle.stream.specs.Streams.{places, uncrowded_of}
 use Rattle.stream.specs.Box.{streams}
 use Rattle.registers.specs.Places.{ctl, fmt, byte_at, has}
-use Rattle.reader.specs.declared.Got.TheVariants.{Short}
+use Rattle.refusal.specs.declared.Refusal.{Refusal}
+use Rattle.refusal.specs.declared.Refusal.TheVariants.{ShortState}
+use Rattle.refusal.specs.Refusals as refusal
 use Rattle.reader.specs.Fields as reader
 use Rattle.reader.specs.Fields.{field_of, run_of, then_of}
 use Rattle.record.specs.Layout.{head_size, numbers_size}
 use Rattle.record.specs.Devices.{flag}
 use Rattle.record.specs.Loads.{marked_of, stream_at}
-use Rattle.parse.specs.declared.Step.{Step}
 
 -- the number where the state ends inside a field
 abbrev pub cut : ℕ
-cut = reader.number_of Short
+cut = reader.number_of None
+
+-- where a run of bytes ends, or that the state ends before
+abbrev pub run_end : List ℕ → ℕ → ℕ → Result ℕ Refusal
+run_end s at n = then_of (run_of s at n) (Err ShortState) (λ start next. Ok next)
 
 -- the formats of the converters, nodes 2 and 4: bytes 10 and 11 of their records
 abbrev pub converter_number : List ℕ → ℕ
@@ -72,6 +77,10 @@ stream_number strict s t at i =
     (list_number s t at)
 
 -- the number so far, and where the next part begins; a refused stream's place stays
+pub record Step : Type 0 where
+  pub number : ℕ
+  pub next : ℕ
+
 abbrev pub step_out : ℕ → ℕ → Step
 step_out number next = record { number = number; next = next }
 
@@ -82,6 +91,16 @@ unfoldable pub step_at : Bool → List ℕ → ℕ → Step → Step
 step_at strict s i w =
     then_of (run_of s w.next numbers_size) (step_out cut w.next)
     (λ start next. let t = stream_at w.next s in stepped_of (stream_number strict s t next i) w.next (next + 8 * t.pending))
+
+-- what a stream's tests found, as a step from `at`
+abbrev pub stepped_by : ℕ → Result ℕ Refusal → Step
+stepped_by at (Ok next) = step_out 0 next
+stepped_by at (Err r) = step_out (refusal.number_of r) at
+
+-- and what those of all streams found: where the last one ends, or the number of a refused one
+abbrev pub EndsStreams : Result ℕ Refusal → Step → Type 0
+EndsStreams (Ok next) w = w ≡ step_out 0 next
+EndsStreams (Err r) w = w.number ≡ refusal.number_of r
 
 abbrev pub goes_on : Step → Bool
 goes_on w = eqb w.number 0

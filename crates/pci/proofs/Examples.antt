@@ -7,7 +7,7 @@ use lib.ListN.{set, replicate}
 use Rattle.word.specs.Place.{word_at, store_at}
 use Rattle.word.specs.Each.{each_of}
 use Rattle.registers.specs.Places.{intctl, ctl, sts}
-use Rattle.pci.specs.declared.Msi.TheVariants.{None, Message}
+use Rattle.std.specs.Prelude.{Some, None}
 use Rattle.configuration.specs.Configuration.{fresh_of, read_of, write_byte_of, write_of}
 use Rattle.pci.specs.Interrupts.{sources_of, status_of, pending_of, level_of, signal_of, update_of}
 
@@ -46,7 +46,7 @@ abbrev messaging : List ℕ
 messaging = write_of (write_of fresh_of 0x64 (0 ∷ 0 ∷ 0xe0 ∷ 0xfe ∷ 0 ∷ 0 ∷ 0 ∷ 0 ∷ 0x41 ∷ 0 ∷ [])) 0x62 (1 ∷ [])
 
 pub message-sent : (level_of messaging completed ≡ false)
-    × ((update_of messaging completed false).signal ≡ signal_of true (Message 0xfee0_0000 0x41))
+    × ((update_of messaging completed false).signal ≡ signal_of true (Some (record { address = 0xfee0_0000; value = 0x41 })))
     × ((update_of messaging completed true).signal ≡ signal_of true None)
 unfolding everything
 message-sent = (refl, refl, refl)

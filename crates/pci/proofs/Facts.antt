@@ -17,8 +17,8 @@ use Rattle.word.proofs.Each.{each_same}
 use Rattle.word.proofs.Place.{length-store, bytes-store, word-elsewhere, byte-elsewhere}
 use Rattle.stream.specs.Box.{streams}
 use Rattle.registers.specs.Places.{wakeen, statests, intctl, intsts, corbctl, corbsts, rirbctl, rirbsts, ctl, sts, byte_at, with_bits, keep_bits}
-use Rattle.pci.specs.declared.Msi.{Msi}
-use Rattle.pci.specs.declared.Msi.TheVariants.{None, Message}
+use Rattle.std.specs.Prelude.{Option, Some, None}
+use Rattle.pci.specs.declared.Message.{Message}
 use Rattle.configuration.specs.Configuration.{identity, fresh_of, write_byte_of, write_of}
 use Rattle.pci.specs.Interrupts.{controller_of, stream_of, sources_of, status_of, pending_of, messages, level_of, sent_of, message_of, update_of}
 use Rattle.configuration.proofs.Writes.{byte-by}
@@ -87,9 +87,9 @@ module _ (config : List ℕ) where
 
 -- Messages.
 
-pub at_most_one : (m : Msi) → length (sent_of m) ≤ 1
+pub at_most_one : (m : Option Message) → length (sent_of m) ≤ 1
 at_most_one None = omega arith
-at_most_one (Message a d) = omega arith
+at_most_one (Some m) = omega arith
 
 -- an update sends the configured message, where an interrupt is pending that goes as a message and was not asserted; else nothing
 pub sent : (config regs : List ℕ) (asserted : Bool)

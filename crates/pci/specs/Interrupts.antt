@@ -1,12 +1,11 @@
 -- The interrupt line and message (document 01, "Host end, added": "the INTx level it leaves and at most one MSI message"; the Rust's `update_irq`).
-use Rattle.std.specs.Prelude.{ℕ, ◌+◌, ◌-◌, ◌^◌, Bool, cond, not, ◌&&◌, ◌||◌, List, [], ◌∷◌, eqb}
+use Rattle.std.specs.Prelude.{ℕ, ◌+◌, ◌-◌, ◌^◌, Bool, cond, not, ◌&&◌, ◌||◌, List, [], ◌∷◌, eqb, Option, Some, None}
 use Rattle.std.specs.Int.Bits.{bit_and}
 use Rattle.word.specs.Place.{word_at, store_at}
 use Rattle.word.specs.Each.{each_of, always}
 use Rattle.stream.specs.Box.{streams}
 use Rattle.registers.specs.Places.{wakeen, statests, intctl, intsts, corbctl, corbsts, rirbctl, rirbsts, ctl, sts, byte_at, has, with_bits, keep_bits}
-use Rattle.pci.specs.declared.Msi.{Msi}
-use Rattle.pci.specs.declared.Msi.TheVariants.{None, Message}
+use Rattle.pci.specs.declared.Message.{Message}
 use Rattle.pci.specs.declared.Interrupt.{Interrupt}
 use Rattle.pci.specs.declared.Signal.{Signal}
 
@@ -49,13 +48,13 @@ pub record Sent : Type 0 where
   pub address : ℕ
   pub value : ℕ
 
-abbrev pub sent_of : Msi → List Sent
+abbrev pub sent_of : Option Message → List Sent
 sent_of None = []
-sent_of (Message a d) = record { address = a; value = d } ∷ []
+sent_of (Some m) = record { address = m.address; value = m.value } ∷ []
 
 -- the message that the configuration asks for
-abbrev pub message_of : List ℕ → Msi
-message_of config = Message (word_at 8 0x64 config) (word_at 2 0x6c config)
+abbrev pub message_of : List ℕ → Option Message
+message_of config = Some (record { address = word_at 8 0x64 config; value = word_at 2 0x6c config })
 
 -- What the files say of the interrupt, where a message was `asserted` before or not: one is sent when an interrupt is pending that goes as a message and was not.
 abbrev pub interrupt_of : List ℕ → List ℕ → Bool → Interrupt
@@ -83,7 +82,7 @@ pub record Update : Type 0 where
 abbrev pub update_out : List ℕ → List ℕ → Signal → Update
 update_out config regs signal = record { config = config; regs = regs; signal = signal }
 
-abbrev pub signal_of : Bool → Msi → Signal
+abbrev pub signal_of : Bool → Option Message → Signal
 signal_of asserted msi = record { asserted = asserted; msi = msi }
 
 -- Global status is recomputed, and the interrupt status bit of the configuration follows where no message is used.

@@ -1,7 +1,7 @@
 // The device's interrupt, as line or message (the Rust's `update_irq`).
 #![tactic(auto)]
 
-ghost use Rattle.std.specs.Prelude.{◌≡◌, cond, ◌+◌, ◌^◌, ◌≤◌, ◌<◌, length};
+ghost use Rattle.std.specs.Prelude.{◌≡◌, cond, ◌+◌, ◌^◌, ◌≤◌, ◌<◌, length, None};
 ghost use Rattle.stream.specs.Box.{streams};
 ghost use Rattle.registers.specs.Places.{size};
 ghost use Rattle.pci.specs.Interrupts.{controller_of, stream_of, sources_of, status_of, pending_by, messages, level_of, message_of, shown_of, interrupt_of, update_out, update_of};
@@ -9,17 +9,17 @@ ghost use Rattle.pci.specs.Interrupts.{controller_of, stream_of, sources_of, sta
 use configuration::Config;
 use registers::Registers;
 
-// A message of the interrupt, or none.
+// A message of the interrupt: what to write, and where.
 #[derive(Clone, Copy)]
-pub enum Msi {
-    None,
-    Message { address: u64, value: u32 },
+pub struct Message {
+    pub address: u64,
+    pub value: u32,
 }
 
 // What the files say of the interrupt: global status, whether the configuration shows a line, whether a message is asserted, the INTx level, and the message to send.
 #[derive(Clone, Copy)]
 pub struct Interrupt {
-    pub msi: Msi,
+    pub msi: Option<Message>,
     pub status: u32,
     pub shown: bool,
     pub asserted: bool,
@@ -29,7 +29,7 @@ pub struct Interrupt {
 // What an update of the interrupt answers: whether a message interrupt is asserted, and the message to send.
 #[derive(Clone, Copy)]
 pub struct Signal {
-    pub msi: Msi,
+    pub msi: Option<Message>,
     pub asserted: bool,
 }
 
@@ -47,8 +47,8 @@ fn controller(regs: &[u8]) -> bool
 {
     let corb = regs[registers::CORBSTS] & regs[registers::CORBCTL];
     let rirb = regs[registers::RIRBSTS] & regs[registers::RIRBCTL];
-    let state = word::get16(regs, registers::STATESTS);
-    let wake = word::get16(regs, registers::WAKEEN);
+    let state = word::get::<u16>(regs, registers::STATESTS);
+    let wake = word::get::<u16>(regs, registers::WAKEEN);
     (corb & 1 != 0) | (rirb & 5 != 0) | (state & wake != 0)
 }
 
@@ -61,30 +61,16 @@ fn stream_status(regs: &[u8], index: usize) -> bool
     regs[base + registers::STS] & regs[base] & 0x1c != 0
 }
 
-// The number with a bit added where `on`.
-fn with_bit(n: u32, bit: u32, on: bool) -> u32
-    requires { n + bit < 2 ^ 32 }
-    ensures { result ≡ cond on (n + bit) n }
-{
-    if on {
-        return n + bit;
-    }
-    n
-}
-
 // The sources' bits.
 fn sources(regs: &[u8]) -> u32
     requires { size ≤ length regs.now }
     ensures { (result ≡ sources_of regs.now) × (result < 2 ^ 31) }
 {
-    let count = stream::STREAMS;
-    let mut found = with_bit(0, CONTROLLER, controller(regs));
-    let mut bit = 1;
-    let mut index = 0;
-    while index < count {
-        found = with_bit(found, bit, stream_status(regs, index));
-        bit *= 2;
-        index += 1;
+    let mut found = if controller(regs) { CONTROLLER } else { 0 };
+    for index in 0..stream::STREAMS {
+        if stream_status(regs, index) {
+            found += 1 << index;
+        }
     }
     found
 }
@@ -116,29 +102,18 @@ fn uses_messages(config: &[u8]) -> bool
     config[0x62] & 1 != 0
 }
 
-// The INTx level, of files that stand in slices.
-pub fn level_in(config: &[u8], regs: &[u8]) -> bool
+// The INTx level.
+#[tactic(auto, unfolding(crate::specs::Interrupts::level_of, crate::specs::Interrupts::pending_of))]
+pub fn level(config: &[u8], regs: &[u8]) -> bool
     requires { (256 ≤ length config.now) × (size ≤ length regs.now) }
     ensures { result ≡ level_of config.now regs.now }
 {
     // Without a line to raise, or none enabled, the sources need not be asked.
-    if uses_messages(config) {
+    if uses_messages(config) || config[0x05] & 4 != 0 {
         return false;
     }
-    if config[0x05] & 4 != 0 {
-        return false;
-    }
-    let control = word::get32(regs, registers::INTCTL);
-    if control & GLOBAL == 0 {
-        return false;
-    }
-    pending(status(regs), control)
-}
-
-pub fn level(config: &Config, regs: &Registers) -> bool
-    ensures { result ≡ level_of config.now regs.now }
-{
-    level_in(config, regs)
+    let control = word::get::<u32>(regs, registers::INTCTL);
+    control & GLOBAL != 0 && pending(status(regs), control)
 }
 
 // The interrupt status bit of the configuration.
@@ -154,32 +129,31 @@ pub fn show(config: &mut [u8], on: bool)
 }
 
 // The message that the configuration asks for, where it is to be sent.
-fn message(config: &[u8], send: bool) -> Msi
+fn configured_message(config: &[u8], send: bool) -> Option<Message>
     requires { 256 ≤ length config.now }
-    ensures { result ≡ cond send (message_of config.now) Msi.None }
+    ensures { result ≡ cond send (message_of config.now) None }
 {
-    if send {
-        let address = word::get64(config, 0x64);
-        let value = word::get16(config, 0x6c);
-        return Msi::Message {
-            address,
-            value: value as u32,
-        };
+    if !send {
+        return None;
     }
-    Msi::None
+    Some(Message {
+        address: word::get::<u64>(config, 0x64),
+        value: u32::from(word::get::<u16>(config, 0x6c)),
+    })
 }
 
 // The interrupt after a change of registers or configuration, of files that stand in slices.
+#[tactic(auto, unfolding(crate::specs::Interrupts::level_of, crate::specs::Interrupts::pending_of))]
 pub fn interrupt_of(config: &[u8], regs: &[u8], asserted: bool) -> Interrupt
     requires { (256 ≤ length config.now) × (size ≤ length regs.now) }
     ensures { result ≡ interrupt_of config.now regs.now asserted }
 {
-    let control = word::get32(regs, registers::INTCTL);
+    let control = word::get::<u32>(regs, registers::INTCTL);
     let current = status(regs);
     let raised = pending(current, control);
     let messages = uses_messages(config);
     let masked = config[0x05] & 4 != 0;
-    let msi = message(config, raised & messages & !asserted);
+    let msi = configured_message(config, raised & messages & !asserted);
     Interrupt {
         status: current,
         shown: raised & !messages,
@@ -190,15 +164,15 @@ pub fn interrupt_of(config: &[u8], regs: &[u8], asserted: bool) -> Interrupt
 }
 
 // The same, and both files brought up to date.
+#[tactic(auto, unfolding(crate::specs::Interrupts::update_of))]
 pub fn update_irq(config: &mut Config, regs: &mut Registers, asserted: bool) -> Signal
     ensures { update_out config.new regs.new result ≡ update_of config.old regs.old asserted }
 {
     let now = interrupt_of(config, regs, asserted);
     show(config, now.shown);
-    word::put32_in(regs, registers::INTSTS, now.status);
-    let msi = now.msi;
+    word::put::<u32>(regs, registers::INTSTS, now.status);
     Signal {
+        msi: now.msi,
         asserted: now.asserted,
-        msi,
     }
 }

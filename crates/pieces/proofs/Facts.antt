@@ -7,7 +7,7 @@ use native.Mathlib.Omega.{arith}
 use lib.ListN.{length, take, drop}
 use Rattle.word.specs.Place.{put_at}
 use Rattle.word.proofs.Lists.{length_part}
-use Rattle.word.proofs.Put.{length-put}
+use Rattle.word.proofs.Puts.{length-put}
 use Rattle.positions.proofs.Change.{length_push}
 use Rattle.stream.specs.declared.Stream.{Stream}
 use Rattle.stream.specs.declared.Cyclic.{Cyclic}

@@ -1,7 +1,8 @@
 -- What holds of every piece that a plan moves, from the definitions alone. Assumes nothing.
 use Prim.Native.Nat.{ℕ, ◌+◌, ◌%◌, ◌^◌, ◌≤◌, ◌<◌}
-use mathlib.Core.Path.{◌≡◌}
+use mathlib.Core.Path.{◌≡◌, sym, ◌∙◌, subst}
 use mathlib.Core.List.{List}
+use Rattle.std.specs.Prelude.{Some, None, Ok, Err}
 use native.Mathlib.Omega.{arith}
 use native.Mathlib.Nat.{mod-lt}
 use borrow.Author.Tests.{ltb-true, ltb-false, leb-true, eqb-true}
@@ -11,16 +12,14 @@ use Rattle.word.specs.Value.{Bytes}
 use Rattle.word.proofs.Choices.{by_cond}
 use Rattle.word.proofs.Place.{word_bound}
 use Rattle.memory.specs.declared.Descriptor.{Descriptor}
-use Rattle.memory.specs.declared.Fetched.TheVariants.{Outside, Entry}
 use Rattle.memory.specs.Memory.{entry_at, descriptor_of}
 use Rattle.stream.specs.declared.Stream.{Stream}
 use Rattle.stream.specs.declared.Cyclic.{Cyclic}
 use Rattle.plan.specs.declared.End.{End}
 use Rattle.plan.specs.declared.End.TheVariants.{Inside, Plain, Flagged}
-use Rattle.plan.specs.declared.Plan.{Plan}
-use Rattle.plan.specs.declared.Plan.TheVariants.{Failed, Full, Move}
+use Rattle.plan.specs.declared.Move.{Move}
 use Rattle.stream.specs.Streams.{places, max_count}
-use Rattle.plan.specs.Plans.{descriptor_at, size_of, end_of, placed_of, entry_of, fetched_of, plan_of}
+use Rattle.plan.specs.Plans.{Plan, descriptor_at, size_of, end_of, placed_of, entry_of, fetched_of, plan_of}
 use Rattle.pieces.specs.Pieces.{EndOk}
 
 -- an end of the descriptor is reached by its last byte
@@ -44,9 +43,8 @@ pub record MoveOk (g : Cyclic) (s : Stream) (size left : ℕ) (d : Descriptor) (
   pub room : EndOk s end
 
 abbrev pub PlanOk : Cyclic → Stream → ℕ → ℕ → Descriptor → Plan → Type 0
-PlanOk g s size left d Failed = Unit {0}
-PlanOk g s size left d Full = Unit {0}
-PlanOk g s size left d (Move at n end) = MoveOk g s size left d at n end
+PlanOk g s size left d (Err stop) = Unit {0}
+PlanOk g s size left d (Ok m) = MoveOk g s size left d m.at m.n m.end
 
 -- the tests of the definition, from the last to the first: each gives what the ones before it leave open
 module _ (g : Cyclic) (s : Stream) (size left : ℕ) (d : Descriptor) where
@@ -102,9 +100,15 @@ unfolding plan_of descriptor_of
 plan-ok g s m left =
     let d : Descriptor = entry_at m (descriptor_at g s) in
     by_cond (PlanOk g s (length m) left d) (ltb g.lvi s.descriptor) _ _ (λ _. tt)
-    (λ e₁. by_cond (λ f. PlanOk g s (length m) left d (fetched_of g s (length m) left f)) (leb (descriptor_at g s + 16) (length m)) (Entry d) Outside
+    (λ e₁. by_cond (λ f. PlanOk g s (length m) left d (fetched_of g s (length m) left f)) (leb (descriptor_at g s + 16) (length m)) (Some d) None
     (λ e₂. entry-ok g s (length m) left d (ltb-false _ _ e₁) (leb-true _ _ e₂))
     (λ _. tt))
+
+-- the same of the move that a plan answers
+pub move_ok : {g : Cyclic} {s : Stream} (m : List ℕ) {left : ℕ} {p : Plan} {moved : Move} → p ≡ plan_of g s m left → p ≡ Ok moved
+    → MoveOk g s (length m) left (entry_at m (descriptor_at g s)) moved.at moved.n moved.end
+move_ok {g} {s} m {left} planned is =
+    subst (PlanOk g s (length m) left (entry_at m (descriptor_at g s))) (sym planned ∙ is) (plan-ok g s m left)
 
 -- a descriptor's length is a 32-bit number, since memory is of bytes
 pub length-bound : (m : List ℕ) (address : ℕ) → Bytes m → address + 16 ≤ length m → (entry_at m address).length < 2 ^ 32

@@ -1,6 +1,7 @@
 -- The pending positions as a list: a piece, and the pieces of a period, append the flagged ends. Assumes nothing.
 use Prim.Native.Nat.{ℕ, ◌+◌, ◌-◌, ◌≤◌}
 use mathlib.Core.Path.{◌≡◌, sym, ap, ◌∙◌}
+use Rattle.std.specs.Prelude.{Ok, Err}
 use mathlib.Core.List.{List, ◌++◌, append-nil, append_assoc}
 use native.Mathlib.Omega.{arith}
 use native.Mathlib.Numerals.{add-one}
@@ -12,10 +13,8 @@ use Rattle.stream.specs.declared.Stream.{Stream}
 use Rattle.stream.specs.declared.Cyclic.{Cyclic}
 use Rattle.plan.specs.declared.End.{End}
 use Rattle.plan.specs.declared.End.TheVariants.{Inside, Plain, Flagged}
-use Rattle.plan.specs.declared.Plan.{Plan}
-use Rattle.plan.specs.declared.Plan.TheVariants.{Failed, Full, Move}
 use Rattle.stream.specs.Streams.{list_size, max_count}
-use Rattle.plan.specs.Plans.{plan_of}
+use Rattle.plan.specs.Plans.{Plan, plan_of}
 use Rattle.pieces.specs.Pieces.{EndOk, next_of, list_of, State, done_of, piece_of, pieces_of}
 use Rattle.pieces.specs.Ends.{ended_of, plan_ends, piece_ends, pieces_ends}
 use Rattle.pieces.proofs.Plans.{plan-ok}
@@ -39,9 +38,8 @@ module _ (g : Cyclic) (count : ℕ) where
   piece-positions x long = go (plan_of g x.stream x.memory (count - x.done)) (plan-ok g x.stream x.memory (count - x.done))
     where
       go : (p : Plan) → NextOk g count x p → view_of (done_of g x p).state ≡ view_of x ++ plan_ends x.stream p
-      go Failed k = sym (append-nil (view_of x))
-      go Full k = sym (append-nil (view_of x))
-      go (Move at n end) k = moved-positions x.stream x.list g.lvi n end k.room k.submitted long
+      go (Err stop) k = sym (append-nil (view_of x))
+      go (Ok m) k = moved-positions x.stream x.list g.lvi m.n m.end k.room k.submitted long
 
   -- the whole period: each flagged end, in order
   pub pieces-positions : (fuel : ℕ) (x : State) → list_size ≤ length x.list → view_of (pieces_of fuel g count x).state ≡ view_of x ++ pieces_ends fuel g count x

@@ -1,8 +1,9 @@
 -- The turns of the loop over pieces: a piece that moves takes the period further, the pieces go on where it did, and what every piece
 -- keeps the pieces keep. Assumes nothing.
 use Prim.Native.Nat.{ℕ, zero, suc, ◌-◌, ◌≤◌, ◌<◌}
-use mathlib.Core.Path.{◌≡◌, refl}
+use mathlib.Core.Path.{◌≡◌, refl, sym, subst}
 use mathlib.Core.Bool.{Bool, true, false}
+use Rattle.std.specs.Prelude.{Ok, Err}
 use native.Mathlib.Omega.{arith}
 use borrow.Author.Tests.{ltb-true, ltb-false, lt-ltb, le-ltb}
 use lib.Dec.{ltb}
@@ -10,9 +11,7 @@ use lib.ListN.{length}
 use Rattle.memory.specs.Memory.{entry_at}
 use Rattle.stream.specs.declared.Cyclic.{Cyclic}
 use Rattle.plan.specs.declared.End.{End}
-use Rattle.plan.specs.declared.Plan.{Plan}
-use Rattle.plan.specs.declared.Plan.TheVariants.{Failed, Full, Move}
-use Rattle.plan.specs.Plans.{descriptor_at, plan_of}
+use Rattle.plan.specs.Plans.{Plan, descriptor_at, plan_of}
 use Rattle.pieces.specs.Pieces.{State, Out, out_of, moved_of, done_of, piece_of, onward, again, pieces_of}
 use Rattle.pieces.proofs.Plans.{MoveOk, PlanOk, plan-ok}
 
@@ -34,9 +33,14 @@ module _ (g : Cyclic) (count : ℕ) (x : State) where
   piece-further cyclic more = go (plan_of g x.stream x.memory (count - x.done)) (plan-ok g x.stream x.memory (count - x.done))
     where
       go : (p : Plan) → NextOk g count x p → Further (done_of g x p).ok count x.done (done_of g x p).state.done
-      go Failed k = refl
-      go Full k = refl
-      go (Move at n end) k = let some = k.some cyclic (omega arith) in (omega arith, omega arith)
+      go (Err stop) k = refl
+      go (Ok m) k = let some = k.some cyclic (omega arith) in (omega arith, omega arith)
+
+  -- .. so one that moves takes it further
+  pub further : (o : Out) → 0 < g.cbl → x.done < count → o ≡ piece_of g count x → o.ok ≡ true → (x.done < o.state.done) × (o.state.done ≤ count)
+  further o cyclic more e moved =
+      subst (λ (b : Bool). Further b count x.done o.state.done) moved
+      (subst (λ (p : Out). Further p.ok count x.done p.state.done) (sym e) (piece-further cyclic more))
 
   pub pieces_more : (fuel : ℕ) (o : Out) → x.done < count → count - x.done ≤ fuel → o ≡ piece_of g count x → o.ok ≡ true
       → (k : ℕ) × (suc k ≡ fuel) × (pieces_of fuel g count x ≡ pieces_of k g count o.state)
@@ -83,9 +87,8 @@ module _ (g : Cyclic) (count : ℕ) (P : State → Type 0)
   piece-keeps x more h = go (plan_of g x.stream x.memory (count - x.done)) (plan-ok g x.stream x.memory (count - x.done))
     where
       go : (p : Plan) → NextOk g count x p → P (done_of g x p).state
-      go Failed k = h
-      go Full k = h
-      go (Move at n end) k = keeps x at n end more k h
+      go (Err stop) k = h
+      go (Ok m) k = keeps x m.at m.n m.end more k h
 
   pub pieces-keep : (fuel : ℕ) (x : State) → P x → P (pieces_of fuel g count x).state
   pieces-keep =

@@ -1,13 +1,11 @@
 -- The positions that the pieces of a period put behind those pending, in order: submitted after each piece whose end is flagged (document 01, "Stream
 -- transfer"; the ends of "The book of demand 3").
-use Rattle.std.specs.Prelude.{ℕ, zero, suc, ◌+◌, ◌-◌, Bool, true, false, List, [], ◌∷◌, ◌++◌, ltb}
+use Rattle.std.specs.Prelude.{ℕ, zero, suc, ◌+◌, ◌-◌, Bool, true, false, List, [], ◌∷◌, ◌++◌, ltb, Ok, Err}
 use Rattle.stream.specs.declared.Stream.{Stream}
 use Rattle.stream.specs.declared.Cyclic.{Cyclic}
 use Rattle.plan.specs.declared.End.{End}
 use Rattle.plan.specs.declared.End.TheVariants.{Inside, Plain, Flagged}
-use Rattle.plan.specs.declared.Plan.{Plan}
-use Rattle.plan.specs.declared.Plan.TheVariants.{Failed, Full, Move}
-use Rattle.plan.specs.Plans.{plan_of}
+use Rattle.plan.specs.Plans.{Plan, plan_of}
 use Rattle.pieces.specs.Pieces.{State, Out, piece_of}
 
 abbrev pub ended_of : ℕ → End → List ℕ
@@ -16,9 +14,8 @@ ended_of position Plain = []
 ended_of position Flagged = position ∷ []
 
 abbrev pub plan_ends : Stream → Plan → List ℕ
-plan_ends s Failed = []
-plan_ends s Full = []
-plan_ends s (Move at n end) = ended_of (s.submitted + n) end
+plan_ends s (Err stop) = []
+plan_ends s (Ok m) = ended_of (s.submitted + m.n) m.end
 
 unfoldable pub piece_ends : Cyclic → ℕ → State → List ℕ
 piece_ends g count x = plan_ends x.stream (plan_of g x.stream x.memory (count - x.done))

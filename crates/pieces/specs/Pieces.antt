@@ -1,16 +1,14 @@
 -- What a piece leaves, and the pieces of a period one after the other: document 01, "Stream transfer"; the Rust's `transfer`.
-use Rattle.std.specs.Prelude.{ℕ, zero, suc, ◌+◌, ◌-◌, ◌^◌, ◌≤◌, ◌<◌, Bool, true, false, cond, List, length, take, drop, ltb, eqb}
+use Rattle.std.specs.Prelude.{ℕ, zero, suc, ◌+◌, ◌-◌, ◌^◌, ◌≤◌, ◌<◌, Bool, true, false, cond, List, length, take, drop, ltb, eqb, is_none, Ok, Err}
 use Rattle.word.specs.Place.{put_at}
 use Rattle.positions.specs.Positions.{push_of}
 use Rattle.stream.specs.declared.Stream.{Stream}
 use Rattle.stream.specs.declared.Cyclic.{Cyclic}
 use Rattle.plan.specs.declared.End.{End}
 use Rattle.plan.specs.declared.End.TheVariants.{Inside, Plain, Flagged}
-use Rattle.plan.specs.declared.Plan.{Plan}
-use Rattle.plan.specs.declared.Plan.TheVariants.{Failed, Full, Move}
 use Rattle.pieces.specs.declared.Step.{Step}
 use Rattle.stream.specs.Streams.{places, list_size, period, stream}
-use Rattle.plan.specs.Plans.{plan_of}
+use Rattle.plan.specs.Plans.{Plan, by_limit, limited, plan_of}
 
 -- the descriptor after one that has ended: the next, or the first behind the last
 abbrev pub following_of : ℕ → ℕ → ℕ
@@ -72,7 +70,7 @@ out_of ok full x = record { ok = ok; full = full; state = x }
 
 -- the code's answer with the three lists
 abbrev pub step_out : Step → List ℕ → List ℕ → List ℕ → Out
-step_out r l m pcm = out_of r.ok r.full (state_of r.stream l m pcm r.done)
+step_out r l m pcm = out_of (is_none r.stop) (limited r.stop) (state_of r.stream l m pcm r.done)
 
 -- what a piece of n bytes at `at` makes of it
 abbrev pub moved_of : Cyclic → State → ℕ → ℕ → End → State
@@ -82,9 +80,8 @@ moved_of g x at n end =
 
 -- what a plan does
 unfoldable pub done_of : Cyclic → State → Plan → Out
-done_of g x Failed = out_of false false x
-done_of g x Full = out_of false true x
-done_of g x (Move at n end) = out_of true false (moved_of g x at n end)
+done_of g x (Err stop) = out_of false (by_limit stop) x
+done_of g x (Ok m) = out_of true false (moved_of g x m.at m.n m.end)
 
 -- one piece of a period of `count` bytes
 unfoldable pub piece_of : Cyclic → ℕ → State → Out

@@ -5,16 +5,15 @@ ghost use Rattle.std.specs.Prelude.{◌≡◌, ◌+◌, ◌^◌, ◌≤◌, ◌<
 ghost use Rattle.stream.specs.Streams.{list_size};
 ghost use Rattle.pieces.specs.Pieces.{following_of, next_of, list_of, EndOk, NextNeeds, memory_of, pcm_of, state_of, step_out, piece_of, pieces_of, PeriodNeeds};
 
-use plan::{End, Plan};
+use plan::{End, Move, Stop};
 use stream::{Cyclic, Stream};
 
-// What a piece, or all pieces of a period, left beside the lent lists.
-#[derive(Clone, Copy)]
+// What a piece, or all pieces of a period, left beside the lent lists. Without a stop all of it went well.
+#[derive(Clone, Copy, PartialEq, Eq, Debug)]
 pub struct Step {
     pub stream: Stream,
     pub done: u32,
-    pub ok: bool,
-    pub full: bool,
+    pub stop: Option<Stop>,
 }
 
 // The descriptor after one that has ended.
@@ -22,10 +21,7 @@ fn following(descriptor: u32, lvi: u32) -> u32
     requires { descriptor ≤ lvi }
     ensures { result ≡ following_of descriptor lvi }
 {
-    if descriptor == lvi {
-        return 0;
-    }
-    descriptor + 1
+    if descriptor == lvi { 0 } else { descriptor + 1 }
 }
 
 // The stream after a piece of n bytes.
@@ -33,31 +29,25 @@ fn next_of(s: Stream, lvi: u32, n: u32, end: End) -> Stream
     requires { NextNeeds s lvi n end }
     ensures { result ≡ next_of s lvi n end }
 {
-    let submitted = s.submitted + (n as u64);
+    let submitted = s.submitted + u64::from(n);
     match end {
         End::Inside => Stream {
-            descriptor: s.descriptor,
             offset: s.offset + n,
-            submitted: submitted,
-            consumed: s.consumed,
-            fraction: s.fraction,
-            pending: s.pending,
+            submitted,
+            ..s
         },
         End::Plain => Stream {
             descriptor: following(s.descriptor, lvi),
             offset: 0,
-            submitted: submitted,
-            consumed: s.consumed,
-            fraction: s.fraction,
-            pending: s.pending,
+            submitted,
+            ..s
         },
         End::Flagged => Stream {
             descriptor: following(s.descriptor, lvi),
             offset: 0,
-            submitted: submitted,
-            consumed: s.consumed,
-            fraction: s.fraction,
+            submitted,
             pending: s.pending + 1,
+            ..s
         },
     }
 }
@@ -68,11 +58,8 @@ fn push_end(list: &mut [u8], s: Stream, n: u32, end: End)
     ensures { list.new ≡ list_of list.old s n end }
 {
     match end {
-        End::Inside => {}
-        End::Plain => {}
-        End::Flagged => {
-            positions::push(list, s.pending as usize, s.submitted + (n as u64));
-        }
+        End::Inside | End::Plain => {}
+        End::Flagged => positions::push(list, s.pending as usize, s.submitted + u64::from(n)),
     }
 }
 
@@ -92,6 +79,7 @@ fn move_bytes(capture: bool, memory: &mut [u8], at: usize, pcm: &mut [u8], done:
 }
 
 // One piece of a period of `count` bytes, of which `done` are moved: decided first, then carried out.
+#[tactic(auto, unfolding(crate::specs::Pieces::piece_of, crate::specs::Pieces::done_of))]
 fn piece(
     g: Cyclic,
     s: Stream,
@@ -105,27 +93,18 @@ fn piece(
     ensures { step_out result list.new memory.new pcm.new ≡ piece_of g count (state_of s list.old memory.old pcm.old done) }
 {
     match plan::plan_at(g, s, memory, count - done) {
-        Plan::Failed => Step {
-            ok: false,
-            full: false,
+        Err(stop) => Step {
             stream: s,
-            done: done,
+            done,
+            stop: Some(stop),
         },
-        Plan::Full => Step {
-            ok: false,
-            full: true,
-            stream: s,
-            done: done,
-        },
-        Plan::Move { at, n, end } => {
+        Ok(Move { at, n, end }) => {
             move_bytes(g.capture, memory, at, pcm, done as usize, n as usize);
             push_end(list, s, n, end);
-            let next = next_of(s, g.lvi, n, end);
             Step {
-                ok: true,
-                full: false,
-                stream: next,
+                stream: next_of(s, g.lvi, n, end),
                 done: done + n,
+                stop: None,
             }
         }
     }
@@ -144,20 +123,19 @@ pub fn pieces(
     ensures { step_out result list.new memory.new pcm.new ≡ pieces_of count g count (state_of stream list.old memory.old pcm.old 0) }
 {
     let mut s = stream;
-    let mut done: u32 = 0;
+    let mut done = 0;
+    // Each piece goes on by its own length, so that no range is gone through here.
     while done < count {
         let step = piece(g, s, list, memory, pcm, done, count);
-        if !step.ok {
+        if step.stop.is_some() {
             return step;
         }
-        let next = step.stream;
-        s = next;
+        s = step.stream;
         done = step.done;
     }
     Step {
-        ok: true,
-        full: false,
         stream: s,
-        done: done,
+        done,
+        stop: None,
     }
 }

@@ -4,39 +4,38 @@
 ghost use Rattle.std.specs.Prelude.{◌≡◌, ◌+◌, ◌^◌, ◌≤◌, ◌<◌};
 ghost use Rattle.plan.specs.Plans.{ready_of, size_of, end_of, placed_of, entry_of, plan_of};
 
-use memory::{Descriptor, Fetched};
+use memory::Descriptor;
 use stream::{Cyclic, Stream};
 
 // Where a piece ends: inside its descriptor, at its end, or at an end that is flagged.
-#[derive(Clone, Copy)]
+#[derive(Clone, Copy, PartialEq, Eq, Debug)]
 pub enum End {
     Inside,
     Plain,
     Flagged,
 }
 
-// What a piece is to do. `Full` is a flagged end with no place left for its position; `Failed` any other rule that stops a transfer.
-#[derive(Clone, Copy)]
-pub enum Plan {
-    Failed,
-    Full,
-    Move { at: usize, n: u32, end: End },
+// A piece that is moved: where in memory it begins, its bytes, and how it ends.
+#[derive(Clone, Copy, PartialEq, Eq, Debug)]
+pub struct Move {
+    pub at: usize,
+    pub n: u32,
+    pub end: End,
 }
 
-// The largest count and the largest address.
-const LARGEST: u64 = 0xffff_ffff_ffff_ffff;
+// What stops a transfer. `Full` is a flagged end with no place left for its position; `Failed` any other rule.
+#[derive(Clone, Copy, PartialEq, Eq, Debug)]
+pub enum Stop {
+    Failed,
+    Full,
+}
 
 // Whether a transfer takes the cyclic buffer.
+#[tactic(auto, unfolding(crate::specs::Plans::ready_of))]
 pub fn ready(g: Cyclic) -> bool
     ensures { result ≡ ready_of g }
 {
-    if g.cbl == 0 {
-        return false;
-    }
-    if g.cbl % 4 != 0 {
-        return false;
-    }
-    g.lvi <= 255
+    g.cbl != 0 && g.cbl % 4 == 0 && g.lvi <= 255
 }
 
 // The bytes of a piece: what is left of the period, of the descriptor, and of the turn of the cyclic buffer.
@@ -44,96 +43,75 @@ fn size_of(g: Cyclic, s: Stream, left: u32, length: u32) -> u32
     requires { (0 < g.cbl) × (s.offset ≤ length) }
     ensures { result ≡ size_of g s left length }
 {
-    let cbl = g.cbl as u64;
-    let turn = cbl - s.submitted % cbl;
-    let rest = (length - s.offset) as u64;
-    word::least(word::least(left as u64, rest), turn) as u32
+    let turn = g.cbl - (s.submitted % u64::from(g.cbl)) as u32;
+    left.min(length - s.offset).min(turn)
 }
 
 // How a piece of n bytes ends.
-fn plan_end(s: Stream, d: Descriptor, n: u32) -> Plan
+#[tactic(auto, unfolding(crate::specs::Plans::end_of))]
+fn plan_end(s: Stream, d: Descriptor, n: u32) -> Result<Move, Stop>
     requires { d.address + s.offset < 2 ^ 64 }
     ensures { result ≡ end_of s d n }
 {
-    let at = (d.address + (s.offset as u64)) as usize;
-    if (s.offset as u64) + (n as u64) != (d.length as u64) {
-        return Plan::Move {
-            at: at,
-            n: n,
-            end: End::Inside,
-        };
-    }
-    if d.flags % 2 != 1 {
-        return Plan::Move {
-            at: at,
-            n: n,
-            end: End::Plain,
-        };
-    }
-    if (s.pending as usize) >= Stream::PLACES {
-        return Plan::Full;
-    }
-    Plan::Move {
-        at: at,
-        n: n,
-        end: End::Flagged,
-    }
+    let at = (d.address + u64::from(s.offset)) as usize;
+    let end = if u64::from(s.offset) + u64::from(n) != u64::from(d.length) {
+        End::Inside
+    } else if d.flags % 2 != 1 {
+        End::Plain
+    } else if s.pending as usize >= Stream::PLACES {
+        return Err(Stop::Full);
+    } else {
+        End::Flagged
+    };
+    Ok(Move { at, n, end })
 }
 
-// Whether a piece of n bytes lies in memory of `size` bytes and submitted stays a 64-bit number. No test adds to the address or to
-// submitted, so none wraps.
-fn plan_placed(s: Stream, size: usize, d: Descriptor, n: u32) -> Plan
+// Whether a piece of n bytes lies in memory of `size` bytes and submitted stays a 64-bit number. No sum wraps: one past 64 bits is outside any memory.
+#[tactic(auto, unfolding(crate::specs::Plans::placed_of))]
+fn plan_placed(s: Stream, size: usize, d: Descriptor, n: u32) -> Result<Move, Stop>
     ensures { result ≡ placed_of s size d n }
 {
-    let size = size as u64;
-    let end = (s.offset as u64) + (n as u64);
-    if end > size {
-        return Plan::Failed;
+    let Some(end) = d.address.checked_add(u64::from(s.offset) + u64::from(n)) else {
+        return Err(Stop::Failed);
+    };
+    if end > size as u64 {
+        return Err(Stop::Failed);
     }
-    if d.address > size - end {
-        return Plan::Failed;
-    }
-    if s.submitted > LARGEST - (n as u64) {
-        return Plan::Failed;
+    if s.submitted.checked_add(u64::from(n)).is_none() {
+        return Err(Stop::Failed);
     }
     plan_end(s, d, n)
 }
 
 // What the descriptor as read allows, with `left` bytes of the period still to move.
-fn plan_entry(g: Cyclic, s: Stream, size: usize, left: u32, d: Descriptor) -> Plan
+#[tactic(auto, unfolding(crate::specs::Plans::entry_of))]
+fn plan_entry(g: Cyclic, s: Stream, size: usize, left: u32, d: Descriptor) -> Result<Move, Stop>
     requires { 0 < g.cbl }
     ensures { result ≡ entry_of g s size left d }
 {
-    let length = d.length;
-    if length == 0 {
-        return Plan::Failed;
+    if d.length == 0 || d.length % 4 != 0 || s.offset >= d.length {
+        return Err(Stop::Failed);
     }
-    if length % 4 != 0 {
-        return Plan::Failed;
-    }
-    if s.offset >= length {
-        return Plan::Failed;
-    }
-    let n = size_of(g, s, left, length);
-    plan_placed(s, size, d, n)
+    plan_placed(s, size, d, size_of(g, s, left, d.length))
 }
 
 // Decides the next piece: every test that can stop it, and no change. The descriptor is read anew from memory as it stands.
-pub fn plan_at(g: Cyclic, s: Stream, memory: &[u8], left: u32) -> Plan
+#[tactic(auto, unfolding(crate::specs::Plans::plan_of))]
+pub fn plan_at(g: Cyclic, s: Stream, memory: &[u8], left: u32) -> Result<Move, Stop>
     requires { 0 < g.cbl }
     ensures { result ≡ plan_of g s memory.now left }
 {
     if s.descriptor > g.lvi {
-        return Plan::Failed;
+        return Err(Stop::Failed);
     }
     let list = g.bdl / 128 * 128;
-    let place = 16 * (s.descriptor as u64);
+    let place = 16 * u64::from(s.descriptor);
     // An address past 64 bits is outside any memory.
-    if list > LARGEST - place {
-        return Plan::Failed;
-    }
-    match memory::fetch_descriptor(memory, list + place) {
-        Fetched::Outside => Plan::Failed,
-        Fetched::Entry(d) => plan_entry(g, s, memory.len(), left, d),
-    }
+    let Some(address) = list.checked_add(place) else {
+        return Err(Stop::Failed);
+    };
+    let Some(d) = memory::fetch_descriptor(memory, address) else {
+        return Err(Stop::Failed);
+    };
+    plan_entry(g, s, memory.len(), left, d)
 }

@@ -7,7 +7,7 @@ use Rattle.restore.specs.Restores.{restore_of}
 use Rattle.record.specs.Layout.{device_size}
 use Rattle.record.specs.Devices.{device_bytes}
 use Rattle.record.specs.Loads.{device_at}
-use Rattle.fastpath.specs.declared.Quick.{Quick}
+use Rattle.in_place.specs.declared.Ended.{Ended}
 use Rattle.host_record.specs.Hosts.{host_bytes, host_at}
 use Rattle.reply.specs.Replies.{is_sent, reply_of, unreadable_of, is_machine}
 
@@ -37,7 +37,7 @@ abbrev pub answered_of : Answer → ℕ
 answered_of a = reply_of a.number a.level (is_sent a.msi) 0
 
 -- a write that the fast path carried out is done
-abbrev pub carried_reply : Quick → ℕ
+abbrev pub carried_reply : Ended → ℕ
 carried_reply q = reply_of 0 q.level (is_sent q.msi) 0
 
 abbrev pub returned_of : Done → Returned

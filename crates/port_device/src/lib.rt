@@ -1,5 +1,6 @@
 // Calls that change a device, where the caller has its record and that of the host end as bytes. Each returns one number (crate reply). `advance` works on the record, and
 // so do most writes (crate fastpath); else the device is taken out of its record, handed on by value, and put back.
+// Each tests the records by itself: it returns a number, so that the match of a helper's Result would be as long as the test.
 #![tactic(auto)]
 
 ghost use Rattle.std.specs.Prelude.{◌≡◌, length};
@@ -11,22 +12,21 @@ ghost use Rattle.hda.specs.Calls.{bar_write_of, config_write_of, pin_of};
 ghost use Rattle.port_device.specs.Calls.{lent, returned, made, made_of, answered_of, carried_reply, stored_out, stored_of, behind, none, restored_by, new_of, paused_of};
 
 use device::Answer;
-use fastpath::Quick;
+use in_place::Ended;
+use refusal::Refusal;
 
 // What is returned for an answer.
 fn answered(a: Answer) -> u64
     ensures { result ≡ answered_of a }
 {
-    let msi = a.msi;
-    reply::reply(a.number, a.level, reply::is_sent(msi), 0)
+    reply::reply(a.number, a.level, reply::is_sent(a.msi), 0)
 }
 
 // What is returned for a write that the fast path carried out.
-fn carried(q: Quick) -> u64
-    ensures { result ≡ carried_reply q }
+fn carried(ended: Ended) -> u64
+    ensures { result ≡ carried_reply ended }
 {
-    let msi = q.msi;
-    reply::reply(0, q.level, reply::is_sent(msi), 0)
+    reply::reply(0, ended.level, reply::is_sent(ended.msi), 0)
 }
 
 // The answer's device into its record; the host end stayed as it was.
@@ -34,8 +34,7 @@ fn kept(a: Answer, device: &mut [u8]) -> u64
     requires { length device.old ≡ device_size }
     ensures { made result device.new ≡ made_of a }
 {
-    let hda = a.hda;
-    record::store_device(hda, device);
+    record::store_device(a.hda, device);
     answered(a)
 }
 
@@ -44,8 +43,7 @@ fn stored(a: Answer, device: &mut [u8], host: &mut [u8]) -> u64
     requires { (length device.old ≡ device_size) × (length host.old ≡ host_size) }
     ensures { stored_out result device.new host.new ≡ stored_of a }
 {
-    let end = a.host;
-    host_record::store_host(end, host);
+    host_record::store_host(a.host, host);
     kept(a, device)
 }
 
@@ -53,16 +51,16 @@ fn stored(a: Answer, device: &mut [u8], host: &mut [u8]) -> u64
 pub fn new(device: &mut [u8], lists: &[u8], queues: &[u8], microphone: bool) -> u64
     ensures { made result device.new ≡ new_of microphone device.old (length lists.now) (length queues.now) }
 {
-    let m = hda::new(microphone, lists, queues);
-    if m.number != 0 {
-        return reply::reply(m.number, false, false, 0);
+    match hda::new(microphone, lists, queues) {
+        Err(refusal) => reply::reply(refusal.number(), false, false, 0),
+        Ok(hda) => {
+            if device.len() != record::DEVICE {
+                return reply::reply(Refusal::State.number(), false, false, 0);
+            }
+            record::store_device(hda, device);
+            reply::reply(0, false, false, 0)
+        }
     }
-    if device.len() != record::DEVICE {
-        return reply::reply(9, false, false, 0);
-    }
-    let hda = m.hda;
-    record::store_device(hda, device);
-    reply::reply(0, false, false, 0)
 }
 
 // `nanos` nanoseconds pass.
@@ -81,10 +79,8 @@ pub fn advance(
     }
     let h = host_record::load_host(host);
     let passed = advance::advance(device, h, lists, queues, memory, nanos);
-    let end = passed.host;
-    host_record::store_host(end, host);
-    let msi = passed.msi;
-    reply::reply(passed.number, passed.level, reply::is_sent(msi), 0)
+    host_record::store_host(passed.host, host);
+    reply::reply(passed.number, passed.level, reply::is_sent(passed.msi), 0)
 }
 
 // A guest's write to the registers.
@@ -103,13 +99,14 @@ pub fn write(
         return reply::unreadable(lists.len(), queues.len());
     }
     let h = host_record::load_host(host);
-    let quick = fastpath::write(device, h, lists, queues, memory, offset, bytes);
-    if quick.done {
-        return carried(quick);
+    match fastpath::write(device, h, lists, queues, memory, offset, bytes) {
+        Some(ended) => carried(ended),
+        None => {
+            let d = record::load_device(device);
+            let a = write::write(d, h, lists, queues, memory, offset, bytes);
+            stored(a, device, host)
+        }
     }
-    let d = record::load_device(device);
-    let a = write::write(d, h, lists, queues, memory, offset, bytes);
-    stored(a, device, host)
 }
 
 // The same at any base address.
@@ -154,13 +151,14 @@ pub fn config_write(
         return reply::unreadable(lists.len(), queues.len());
     }
     let h = host_record::load_host(host);
-    let quick = fastpath::config_write(device, h, lists, queues, memory, register, offset, bytes);
-    if quick.done {
-        return carried(quick);
+    match fastpath::config_write(device, h, lists, queues, memory, register, offset, bytes) {
+        Some(ended) => carried(ended),
+        None => {
+            let d = record::load_device(device);
+            let a = hda::config_write(d, h, lists, queues, memory, register, offset, bytes);
+            kept(a, device)
+        }
     }
-    let d = record::load_device(device);
-    let a = hda::config_write(d, h, lists, queues, memory, register, offset, bytes);
-    kept(a, device)
 }
 
 // The presence of something at a pin has changed.

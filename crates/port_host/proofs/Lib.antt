@@ -1,2 +1,2 @@
--- The laws of specs/: the ways out of each call.
+-- The size of a record.
 pub mod Outcomes

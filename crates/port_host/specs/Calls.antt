@@ -4,8 +4,7 @@ use Rattle.stream.specs.Box.{streams}
 use Rattle.queue.specs.Queues.{capacity}
 use Rattle.host.specs.declared.Host.{Host}
 use Rattle.host.specs.Hosts as hosts
-use Rattle.driver.specs.declared.Fed.{Fed}
-use Rattle.driver.specs.declared.Set.{Set}
+use Rattle.driver.specs.Calls.{Fed, Set}
 use Rattle.driver.specs.Calls as driver
 use Rattle.host_record.specs.Hosts.{host_size, host_bytes, host_at, is_host}
 use Rattle.reply.specs.Replies.{reply_of}

@@ -1,4 +1,5 @@
 // Calls that read a device whose record, like that of its host end, the caller has as bytes: registers, configuration, saved state. Each returns one number (crate reply).
+// Each tests the records by itself: it returns a number, so that the match of a helper's Result would be as long as the test.
 #![tactic(auto)]
 
 ghost use Rattle.std.specs.Prelude.{◌≡◌, length};

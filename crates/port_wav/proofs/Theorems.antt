@@ -5,7 +5,7 @@ use mathlib.Core.Bool.{true}
 use mathlib.Core.List.{List, ◌++◌}
 use native.Mathlib.Omega.{arith}
 use lib.ListN.{length, take, drop}
-use Rattle.wav.specs.declared.Filled.{Filled}
+use Rattle.wav.specs.Files.{Filled}
 use Rattle.wav.specs.Files as wav
 use Rattle.wav.proofs.Files.{length-file}
 use Rattle.wav.proofs.Theorems.{Small, write-small, read_small, writes}

@@ -11,8 +11,11 @@ pub record FilledBytes : Type 0 where
 abbrev pub filled_out : ℕ → List ℕ → FilledBytes
 filled_out reply into = record { reply = reply; into = into }
 
+abbrev pub reply_of : wav.Filled → ℕ
+reply_of f = fill_reply_of f.number f.count f.rate
+
 abbrev pub filled_of : wav.Fill → FilledBytes
-filled_of f = filled_out (fill_reply_of f.filled.number f.filled.count f.filled.rate) f.into
+filled_of f = filled_out (reply_of f.filled) f.into
 
 unfoldable pub write_of : ℕ → List ℕ → List ℕ → FilledBytes
 write_of rate frames into = filled_of (wav.write_of rate frames into)

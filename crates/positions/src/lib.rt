@@ -11,7 +11,7 @@ pub fn get(list: &[u8], i: usize) -> u64
     requires { 8 * i + 8 ≤ length list.now }
     ensures { result ≡ word_at 8 (8 * i) list.now }
 {
-    word::get64(list, 8 * i)
+    word::get::<u64>(list, 8 * i)
 }
 
 // Whether the first n positions rise from above lo up to at most hi.
@@ -20,17 +20,15 @@ pub fn rises(list: &[u8], n: usize, lo: u64, hi: u64) -> bool
     ensures { result ≡ rises_of lo (positions_of n list.now) hi }
 {
     let mut last = lo;
-    let mut i = 0;
-    while i < n {
+    for i in 0..n {
         let x = get(list, i);
         if x <= last {
             return false;
         }
         last = x;
-        i += 1;
     }
     // Of positions that rise, the last is the highest.
-    (n == 0) | (last <= hi)
+    n == 0 || last <= hi
 }
 
 // Whether the first n positions are 4 apart or more, and the last is offset or more below hi. No sum is made, so that none can wrap.
@@ -42,22 +40,14 @@ pub fn spaced(list: &[u8], n: usize, offset: u64, hi: u64) -> bool
         return true;
     }
     let mut last = get(list, 0);
-    let mut i = 1;
-    while i < n {
+    for i in 1..n {
         let x = get(list, i);
-        if x < last {
-            return false;
-        }
-        if x - last < 4 {
+        if x.saturating_sub(last) < 4 {
             return false;
         }
         last = x;
-        i += 1;
     }
-    if last > hi {
-        return false;
-    }
-    offset <= hi - last
+    last <= hi && offset <= hi - last
 }
 
 // How many of the first n positions, from the front, are at most c.
@@ -65,26 +55,25 @@ pub fn up_to(list: &[u8], n: usize, c: u64) -> usize
     requires { 8 * n ≤ length list.now }
     ensures { (result ≡ up_to_of c (positions_of n list.now)) × (result ≤ n) }
 {
-    let mut i = 0;
-    while i < n {
-        let x = get(list, i);
-        if x > c {
+    for i in 0..n {
+        if get(list, i) > c {
             return i;
         }
-        i += 1;
     }
     n
 }
 
 // Puts v behind the first n positions.
+#[tactic(auto, unfolding(crate::specs::Positions::push_of))]
 pub fn push(list: &mut [u8], n: usize, v: u64)
     requires { 8 * n + 8 ≤ length list.old }
     ensures { list.new ≡ push_of n v list.old }
 {
-    word::put64(list, 8 * n, v)
+    word::put::<u64>(list, 8 * n, v)
 }
 
 // Takes the first k of n positions away: the n - k others move to the front, once. With k = 0 nothing moves.
+#[tactic(auto, unfolding(crate::specs::Positions::retire_of))]
 pub fn retire(list: &mut [u8], n: usize, k: usize)
     requires { (k ≤ n) × (8 * n ≤ length list.old) }
     ensures { list.new ≡ retire_of k n list.old }

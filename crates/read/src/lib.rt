@@ -2,19 +2,22 @@
 // checks the machine first (document 01, "Numbers returned"), leaves the device as it is, and answers its number and the INTx level.
 #![tactic(auto)]
 
-ghost use Rattle.std.specs.Prelude.{◌≡◌, ◌*◌, ◌≤◌, length, replicate};
+ghost use Rattle.std.specs.Prelude.{◌≡◌, ◌*◌, ◌≤◌, length};
 ghost use Rattle.stream.specs.Box.{streams};
 ghost use Rattle.stream.specs.Streams.{list_size};
 ghost use Rattle.device.specs.Devices.{streams_valid, valid_of};
 ghost use Rattle.device.specs.Machines.{check_of};
+ghost use Rattle.refusal.specs.Refusals.{outcome_of};
 ghost use Rattle.record.specs.Layout.{device_size};
 ghost use Rattle.record.specs.Loads.{device_at};
 ghost use Rattle.read.specs.Reads.{shown_of, status_of, read_of, bar_read_of, config_read_of};
 
 use host::Host;
+use refusal::Refusal;
 use stream::{STREAMS, Stream};
 
 // What a register read answers beside the buffer.
+// No Result: the C reply has a number and the level also where the read is refused.
 #[derive(Clone, Copy)]
 pub struct Status {
     pub number: u32,
@@ -34,49 +37,38 @@ fn streams_valid(device: &[u8], lists: &[u8]) -> bool
     requires { (length device.now ≡ device_size) × (list_size * streams ≤ length lists.now) }
     ensures { result ≡ streams_valid streams 0 (device_at device.now) lists.now }
 {
-    let count = STREAMS;
-    let mut index = 0;
-    while index < count {
-        let s = record::load_stream(device, record::HEAD + record::NUMBERS * index);
-        let a = Stream::LIST * index;
-        let e = a + Stream::LIST;
-        if !s.valid(&lists[a..e]) {
-            return false;
-        }
-        index += 1;
-    }
-    true
+    (0..STREAMS).all(|index| {
+        let list = Stream::LIST * index;
+        record::load_stream(device, record::HEAD + record::NUMBERS * index).valid(
+            &lists[list..list + Stream::LIST],
+        )
+    })
 }
 
-// What a device handed in must meet, else number 9.
+// What a device handed in must meet.
 fn valid(device: &[u8], lists: &[u8]) -> bool
     requires { (length device.now ≡ device_size) × (list_size * streams ≤ length lists.now) }
     ensures { result ≡ valid_of (device_at device.now) lists.now }
 {
-    if word::get64(device, record::FRACTION) >= 1_000_000_000 {
-        return false;
-    }
-    if word::get16(device, record::RESPONSES) > 255 {
-        return false;
-    }
-    if word::get32(device, record::CONFIG) != 0x293e_8086 {
-        return false;
-    }
-    streams_valid(device, lists)
+    word::get::<u64>(device, record::FRACTION) < 1_000_000_000
+        && word::get::<u16>(device, record::RESPONSES) <= 255
+        && word::get::<u32>(device, record::CONFIG) == configuration::IDENTITY
+        && streams_valid(device, lists)
 }
 
-// 10 for short lent space, 9 for a device or host end that breaks a condition, else 0.
-pub fn check(device: &[u8], host: Host, lists: &[u8], queues: usize) -> u32
+// Whether the lent space is long enough, and device and host end meet their conditions.
+pub fn check(device: &[u8], host: Host, lists: &[u8], queues: usize) -> Result<(), Refusal>
     requires { length device.now ≡ device_size }
-    ensures { result ≡ check_of (device_at device.now) host lists.now queues }
+    ensures { outcome_of result ≡ check_of (device_at device.now) host lists.now queues }
 {
     if device::is_short(lists.len(), queues) {
-        return 10;
+        return Err(Refusal::LentSpace);
     }
-    if !valid(device, lists) {
-        return 9;
+    if valid(device, lists) && host.valid() {
+        Ok(())
+    } else {
+        Err(Refusal::State)
     }
-    if host.valid() { 0 } else { 9 }
 }
 
 // The number and the INTx level of a call that leaves the device as it is.
@@ -86,7 +78,7 @@ pub fn status_of(device: &[u8], number: u32) -> Status
 {
     Status {
         number,
-        level: pci::level_in(
+        level: pci::level(
             &device[record::CONFIG..record::REGISTERS],
             &device[record::REGISTERS..record::CODEC],
         ),
@@ -105,23 +97,11 @@ pub fn read(
     requires { length device.now ≡ device_size }
     ensures { shown_of result into.new ≡ read_of offset (device_at device.now) host lists.now (length queues.now) into.old }
 {
-    let number = check(device, host, lists, queues.len());
-    if number != 0 {
-        return status_of(device, number);
+    if let Err(refusal) = check(device, host, lists, queues.len()) {
+        return status_of(device, refusal.number());
     }
     registers::read_in(&device[record::REGISTERS..record::CODEC], offset, into);
-    status_of(device, number)
-}
-
-// Zeros in the place of a buffer's bytes.
-pub fn clear(into: &mut [u8])
-    ensures { into.new ≡ replicate (length into.old) 0 }
-{
-    let mut i = 0;
-    while i < into.len() {
-        into[i] = 0;
-        i += 1;
-    }
+    status_of(device, 0)
 }
 
 // The registers are base address 0; another reads 0.
@@ -140,12 +120,11 @@ pub fn bar_read(
     if bar == 0 {
         return read(device, host, lists, queues, offset, into);
     }
-    let number = check(device, host, lists, queues.len());
-    if number != 0 {
-        return status_of(device, number);
+    if let Err(refusal) = check(device, host, lists, queues.len()) {
+        return status_of(device, refusal.number());
     }
-    clear(into);
-    status_of(device, number)
+    into.fill(0);
+    status_of(device, 0)
 }
 
 // A configuration register.
@@ -153,19 +132,18 @@ pub fn config_read(device: &[u8], host: Host, lists: &[u8], queues: &[u8], regis
     requires { length device.now ≡ device_size }
     ensures { result ≡ config_read_of register (device_at device.now) host lists.now (length queues.now) }
 {
-    let number = check(device, host, lists, queues.len());
-    let s = status_of(device, number);
-    if number != 0 {
+    if let Err(refusal) = check(device, host, lists, queues.len()) {
+        let status = status_of(device, refusal.number());
         return Value {
-            number: s.number,
-            level: s.level,
+            number: status.number,
+            level: status.level,
             value: 0,
         };
     }
-    let value = configuration::read_in(&device[record::CONFIG..record::REGISTERS], register);
+    let status = status_of(device, 0);
     Value {
-        number: s.number,
-        level: s.level,
-        value,
+        number: status.number,
+        level: status.level,
+        value: configuration::read_in(&device[record::CONFIG..record::REGISTERS], register),
     }
 }

@@ -11,17 +11,10 @@ pub struct StateReader<'a> {
     pub at: usize,
 }
 
-// A field of the state: its number, or the state ends inside it (document 01's number 2).
-#[derive(Clone, Copy)]
-pub enum Got {
-    Value(u64),
-    Short,
-}
-
-// An answer, and where the unread bytes begin.
-#[derive(Clone, Copy)]
+// An answer, and where the unread bytes begin: a number, or `None` where the state ends inside the field (document 01's number 2).
+#[derive(Clone, Copy, PartialEq, Eq, Debug)]
 pub struct Took {
-    pub got: Got,
+    pub got: Option<u64>,
     pub next: usize,
 }
 
@@ -29,54 +22,44 @@ pub struct Took {
 fn cut(s: &[u8], at: usize, n: usize) -> bool
     ensures { result ≡ ltb (length s.now) (at + n) }
 {
-    if s.len() < at {
-        return true;
-    }
-    if s.len() - at < n {
-        return true;
-    }
-    false
+    s.len() < at || s.len() - at < n
 }
 
 // The number of the n bytes at `at`, from the highest byte down.
+#[tactic(auto, unfolding(crate::specs::Fields::field_of))]
 fn field_at(s: &[u8], at: usize, n: usize) -> Took
     requires { n ≤ 8 }
     ensures { result ≡ field_of s.now at n }
 {
-    let short = cut(s, at, n);
-    if short {
+    if cut(s, at, n) {
         return Took {
-            got: Got::Short,
+            got: None,
             next: at,
         };
     }
-    let mut v: u64 = 0;
-    let mut i = n;
-    while 0 < i {
-        i -= 1;
-        v = v * 256 + (s[at + i] as u64);
+    let mut v = 0;
+    for i in (0..n).rev() {
+        v = v * 256 + u64::from(s[at + i]);
     }
-    let next = at + n;
     Took {
-        got: Got::Value(v),
-        next,
+        got: Some(v),
+        next: at + n,
     }
 }
 
+#[tactic(auto, unfolding(crate::specs::Fields::run_of))]
 fn run_at(s: &[u8], at: usize, n: usize) -> Took
     ensures { result ≡ run_of s.now at n }
 {
-    let short = cut(s, at, n);
-    if short {
+    if cut(s, at, n) {
         return Took {
-            got: Got::Short,
+            got: None,
             next: at,
         };
     }
-    let next = at + n;
     Took {
-        got: Got::Value(at as u64),
-        next,
+        got: Some(at as u64),
+        next: at + n,
     }
 }
 
@@ -86,25 +69,25 @@ impl<'a> StateReader<'a> {
     {
         StateReader { src, at }
     }
-}
 
-// The next n bytes' number, and the reader moved past them; or `Short`, and the reader as it was.
-pub fn take<'s, 'a>(r: &'s mut StateReader<'a>, n: usize) -> Got
-    requires { n ≤ 8 }
-    ensures { taken_of result r.new ≡ take_of r.old n }
-{
-    let t = field_at(r.src, r.at, n);
-    r.at = t.next;
-    t.got
-}
+    // The next n bytes' number, and the reader moved past them; or `None`, and the reader as it was.
+    pub fn take(&mut self, n: usize) -> Option<u64>
+        requires { n ≤ 8 }
+        ensures { taken_of result self.new ≡ take_of self.old n }
+    {
+        let t = field_at(self.src, self.at, n);
+        self.at = t.next;
+        t.got
+    }
 
-// The same of a run of n bytes, of any length: its number is where it starts.
-pub fn take_run<'s, 'a>(r: &'s mut StateReader<'a>, n: usize) -> Got
-    ensures { taken_of result r.new ≡ take_run_of r.old n }
-{
-    let t = run_at(r.src, r.at, n);
-    r.at = t.next;
-    t.got
+    // The same of a run of n bytes, of any length: its number is where it starts.
+    pub fn take_run(&mut self, n: usize) -> Option<u64>
+        ensures { taken_of result self.new ≡ take_run_of self.old n }
+    {
+        let t = run_at(self.src, self.at, n);
+        self.at = t.next;
+        t.got
+    }
 }
 
 // The number of the n bytes at `at`, and the place behind them.
@@ -113,7 +96,7 @@ pub fn field(s: &[u8], at: usize, n: usize) -> Took
     ensures { result ≡ field_of s.now at n }
 {
     let mut r = StateReader::new(s, at);
-    let got = take(&mut r, n);
+    let got = r.take(n);
     Took { got, next: r.at }
 }
 
@@ -122,6 +105,6 @@ pub fn run(s: &[u8], at: usize, n: usize) -> Took
     ensures { result ≡ run_of s.now at n }
 {
     let mut r = StateReader::new(s, at);
-    let got = take_run(&mut r, n);
+    let got = r.take_run(n);
     Took { got, next: r.at }
 }

@@ -10,7 +10,7 @@ use Rattle.word.specs.Value.{bytes_of, Bytes}
 use Rattle.word.specs.Place.{put_at, store_at}
 use Rattle.word.proofs.Value.{length-bytes}
 use Rattle.word.proofs.Lists.{set_keeps}
-use Rattle.word.proofs.Put.{set-put, put-lent}
+use Rattle.word.proofs.Puts.{set-put, put-lent}
 use Rattle.word.proofs.Place.{store-put, word_bound}
 use Rattle.clock.specs.declared.Clock.{Clock}
 use Rattle.codec.specs.declared.Codec.{Codec}

@@ -14,8 +14,7 @@ use Rattle.word.specs.Each.{each_of}
 use Rattle.word.proofs.Choices.{both, by-test, by_value, by_cond, chosen}
 use Rattle.word.proofs.Place.{store_pair, store-join}
 use Rattle.codec.specs.declared.Codec.{Codec}
-use Rattle.codec.specs.declared.Reply.{Reply}
-use Rattle.codec.specs.declared.Reply.TheVariants.{Nothing, Value}
+use Rattle.std.specs.Prelude.{Option as Reply, Some as Value, None as Nothing}
 use Rattle.codec.specs.Codecs.{verb_of}
 use Rattle.registers.specs.Places.{size, corbrp, rirbwp, icoi, icii, icis, byte_at, has, keep_bits}
 use Rattle.registers.specs.Writes.{write_byte_of, control_byte_of, align_of}
@@ -120,7 +119,7 @@ module _ {l : List ℕ} (m : Midway l) where
       free w p = and_zero_r (bit_and w (alignment p))
 
 module _ {l : List ℕ} (m : Midway l) (codec : Codec) where
-  midway-replied : (reply : Reply) → Midway (replied_of l codec reply).regs
+  midway-replied : (reply : Reply ℕ) → Midway (replied_of l codec reply).regs
   midway-replied Nothing = midway-icis m (bit_or (byte_at l icis) 1) (or_lt 8 (byte_at l icis) 1 (m.file.bytes icis) (omega arith))
   midway-replied (Value v) = midway-icis (midway-response m v) 2 (omega arith)
 

@@ -1,52 +1,49 @@
--- Laws of the verdict on recorded calls: one for each way out of `perform`, `run`, `judge` and of a turn of `play`, and the turns one after another. Assumes nothing.
-use Rattle.std.proofs.Common.{◌≡◌, ℕ, zero, suc, ◌+◌, ◌-◌, ◌<◌, ◌≤◌, Bool, true, false, not, eqb, ◌≢◌, List, length, take, drop, refl, ap, ◌∙◌, arith, le-ltb, lt-ltb, eq-eqb, ne_eqb}
-use Rattle.port_device.specs.Calls.{Lent, lent, Returned, Made, Stored, paused_of}
-use Rattle.port_reads.specs.Reads.{Shown}
-use Rattle.port_host.specs.Calls.{PulledBytes}
+-- Laws of the verdict on recorded calls: an unknown kind in `perform`, one for each way out of `run`, `judge` and of a turn of `play`, and the turns one after another. Assumes nothing.
+use Rattle.std.proofs.Common.{◌≡◌, ℕ, zero, suc, ◌+◌, ◌-◌, ◌<◌, ◌≤◌, Bool, true, false, cond, List, length, take, drop, refl, ap, ◌∙◌, arith, ltb, le-ltb, lt-ltb, ne_eqb}
+use Rattle.port_device.specs.Calls.{Lent, lent}
 use Rattle.rehearse.specs.declared.call.Call.{Call}
 use Rattle.rehearse.specs.declared.play.Tally.{Tally}
-use Rattle.rehearse.specs.Calls.{fresh_of, change_of, show_of, host_of, Reached, memory_of}
+use Rattle.rehearse.specs.Calls.{none, change_of, show_of, host_of, memory_of}
+use Rattle.rehearse.specs.Kinds.{Unnumbered}
 use Rattle.rehearse.specs.Recorded.{call_at, agrees_of, counted_of, length_of}
-use Rattle.rehearse.specs.Verdict.{Performed, fresh_in, reached_in, paused_in, changed_in, shown_in, host_in, perform_of, Judged, judged, erased_of, digest_after, run_of, part_in, judge_of, Progress, progress, turn_of, play_from}
+use Rattle.rehearse.specs.Verdict.{Performed, performed, perform_of, Judged, judged, erased_of, digest_after, run_of, part_in, judge_of, Progress, progress, turn_of, play_from}
 
 module _ (c : Call) (bytes : List ℕ) (x : Lent) (into : List ℕ) where
-  pub perform-fresh : c.kind ≡ 0 → (s : Stored) → s ≡ fresh_of (not (eqb c.first 0)) x.device x.host (length x.lists) (length x.queues)
-      → fresh_in x into s ≡ perform_of c bytes x into
-  unfolding perform_of
-  perform-fresh k s e = ap (fresh_in x into) e ∙ rw (eq-eqb c.kind 0 k)
+  pub perform-unknown : Unnumbered c.kind → performed none x into ≡ perform_of c bytes x into
+  unfolding perform_of change_of show_of host_of memory_of
+  perform-unknown (n0, n1, n2, n3, n10, n11, n12, n13, n14, n15, n16, n17, n20, n21, n22, n23, n30, n31, n32, n33, n34) =
+      rw (
+        ne_eqb c.kind 0 n0,
+        ne_eqb c.kind 1 n1,
+        ne_eqb c.kind 2 n2,
+        ne_eqb c.kind 3 n3,
+        ne_eqb c.kind 10 n10,
+        ne_eqb c.kind 11 n11,
+        ne_eqb c.kind 12 n12,
+        ne_eqb c.kind 13 n13,
+        ne_eqb c.kind 14 n14,
+        ne_eqb c.kind 15 n15,
+        ne_eqb c.kind 16 n16,
+        ne_eqb c.kind 17 n17,
+        ne_eqb c.kind 20 n20,
+        ne_eqb c.kind 21 n21,
+        ne_eqb c.kind 22 n22,
+        ne_eqb c.kind 23 n23,
+        ne_eqb c.kind 30 n30,
+        ne_eqb c.kind 31 n31,
+        ne_eqb c.kind 32 n32,
+        ne_eqb c.kind 33 n33,
+        ne_eqb c.kind 34 n34,
+      ) (by_range (ltb c.kind 10) (ltb c.kind 20) (ltb c.kind 30))
+    where
+      nothing : Performed
+      nothing = performed none x into
 
-  module _ (old : c.kind ≢ 0) where
-    pub perform-memory : c.kind < 10 → (r : Reached) → r ≡ memory_of c.kind c.first c.second bytes x.memory
-        → reached_in x into r ≡ perform_of c bytes x into
-    unfolding perform_of
-    perform-memory k r e = ap (reached_in x into) e ∙ rw (ne_eqb c.kind 0 old, lt-ltb c.kind 10 k)
-
-    module _ (calls : 10 ≤ c.kind) where
-      pub perform-paused : c.kind ≡ 15 → (m : Made) → m ≡ paused_of (not (eqb c.first 0)) x.device x.host x.lists (length x.queues)
-          → paused_in x into m ≡ perform_of c bytes x into
-      unfolding perform_of
-      perform-paused k m e = ap (paused_in x into) e ∙ rw (ne_eqb c.kind 0 old, le-ltb c.kind 10 calls, eq-eqb c.kind 15 k)
-
-      module _ (other : c.kind ≢ 15) where
-        pub perform-changed : c.kind < 20 → (r : Returned) → r ≡ change_of c.kind c.first c.second bytes x
-            → changed_in into r ≡ perform_of c bytes x into
-        unfolding perform_of
-        perform-changed k r e =
-            ap (changed_in into) e ∙ rw (ne_eqb c.kind 0 old, le-ltb c.kind 10 calls, ne_eqb c.kind 15 other, lt-ltb c.kind 20 k)
-
-        module _ (keeps : 20 ≤ c.kind) where
-          pub perform-shown : c.kind < 30 → (s : Shown)
-              → s ≡ show_of c.kind c.first c.second x.device x.host x.lists (length x.queues) into
-              → shown_in x s ≡ perform_of c bytes x into
-          unfolding perform_of
-          perform-shown k s e =
-              ap (shown_in x) e ∙ rw (ne_eqb c.kind 0 old, le-ltb c.kind 10 calls, ne_eqb c.kind 15 other, le-ltb c.kind 20 keeps, lt-ltb c.kind 30 k)
-
-          pub perform-host : 30 ≤ c.kind → (p : PulledBytes) → p ≡ host_of c.kind c.first bytes x.host x.queues into
-              → host_in x p ≡ perform_of c bytes x into
-          unfolding perform_of
-          perform-host k p e =
-              ap (host_in x) e ∙ rw (ne_eqb c.kind 0 old, le-ltb c.kind 10 calls, ne_eqb c.kind 15 other, le-ltb c.kind 20 keeps, le-ltb c.kind 30 k)
+      by_range : (memory device shown : Bool) → nothing ≡ cond memory nothing (cond device nothing (cond shown nothing nothing))
+      by_range true _ _ = refl
+      by_range false true _ = refl
+      by_range false false true = refl
+      by_range false false false = refl
 
   pub run-done : (l : List ℕ) → l ≡ erased_of into → (p : Performed) → p ≡ perform_of c bytes x l → (d : ℕ) → d ≡ digest_after c.kind p
       → (b : Bool) → b ≡ agrees_of c p.reply d → judged b p.lent p.into ≡ run_of c bytes x into

@@ -3,8 +3,9 @@
 // amended Rust answered, the one with the differences, since the unchanged Rust had parted from it.
 ghost use Rattle.std.specs.Prelude.{◌≡◌, ◌+◌, ◌≤◌, length};
 ghost use Rattle.rehearse.specs.Recorded.{call_at};
+ghost use Rattle.rehearse.specs.Kinds.{Numbered};
 
-#[derive(Clone, Copy)]
+#[derive(Clone, Copy, PartialEq, Eq, Debug)]
 pub struct Call {
     pub tag: u8,
     pub kind: u8,
@@ -14,6 +15,69 @@ pub struct Call {
     pub second: u64,
     pub reply: u64,
     pub digest: u32,
+}
+
+// What a call does. A byte that is none of these is `Unknown`: that call does nothing.
+#[derive(Clone, Copy, PartialEq, Eq, Debug)]
+pub enum Kind {
+    // A new device and a new host end.
+    Fresh,
+    // What reaches guest memory: noise, bytes at an address, a look at all of it.
+    Noise,
+    Poke,
+    Look,
+    // What changes the device.
+    Advance,
+    Write,
+    BarWrite,
+    ConfigWrite,
+    PinPresence,
+    Pause,
+    Restore,
+    RestoreEmptied,
+    // What reads it.
+    Read,
+    BarRead,
+    ConfigRead,
+    Save,
+    // What is the host end's.
+    Feed,
+    Pull,
+    PlaybackFails,
+    CaptureFails,
+    Downstream,
+    Unknown,
+}
+
+impl From<u8> for Kind {
+    ghost from_gives = { λ byte kind. Numbered kind byte };
+
+    fn from(byte: u8) -> Kind {
+        match byte {
+            0 => Kind::Fresh,
+            1 => Kind::Noise,
+            2 => Kind::Poke,
+            3 => Kind::Look,
+            10 => Kind::Advance,
+            11 => Kind::Write,
+            12 => Kind::BarWrite,
+            13 => Kind::ConfigWrite,
+            14 => Kind::PinPresence,
+            15 => Kind::Pause,
+            16 => Kind::Restore,
+            17 => Kind::RestoreEmptied,
+            20 => Kind::Read,
+            21 => Kind::BarRead,
+            22 => Kind::ConfigRead,
+            23 => Kind::Save,
+            30 => Kind::Feed,
+            31 => Kind::Pull,
+            32 => Kind::PlaybackFails,
+            33 => Kind::CaptureFails,
+            34 => Kind::Downstream,
+            _ => Kind::Unknown,
+        }
+    }
 }
 
 // Bytes of a call without those that it hands over.
@@ -27,11 +91,11 @@ pub fn load(all: &[u8], at: usize) -> Call
     Call {
         tag,
         kind: tag % 128,
-        count: word::get16(all, at + 1),
-        room: word::get32(all, at + 3),
-        first: word::get64(all, at + 7),
-        second: word::get64(all, at + 15),
-        reply: word::get64(all, at + 23),
-        digest: word::get32(all, at + 31),
+        count: word::get::<u16>(all, at + 1),
+        room: word::get::<u32>(all, at + 3),
+        first: word::get::<u64>(all, at + 7),
+        second: word::get::<u64>(all, at + 15),
+        reply: word::get::<u64>(all, at + 23),
+        digest: word::get::<u32>(all, at + 31),
     }
 }

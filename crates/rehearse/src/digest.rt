@@ -7,7 +7,7 @@ use stream::Stream;
 fn step(sum: u32, byte: u8) -> u32
     ensures { result ≡ step_of sum byte }
 {
-    (((sum as u64) * 16777619 + (byte as u64)) % 4294967291) as u32
+    ((u64::from(sum) * 16777619 + u64::from(byte)) % 4294967291) as u32
 }
 
 // The digest of bytes behind those that gave `start`.
@@ -15,35 +15,29 @@ pub fn digest(start: u32, bytes: &[u8]) -> u32
     ensures { result ≡ digest_of start bytes.now }
 {
     let mut sum = start;
-    let mut i = 0;
-    while i < bytes.len() {
-        sum = step(sum, bytes[i]);
-        i += 1;
+    for byte in bytes {
+        sum = step(sum, *byte);
     }
     sum
 }
 
 // A number in a record, 0 where it has none.
+#[tactic(auto, unfolding(crate::specs::Digest::number_of))]
 fn number(bytes: &[u8], at: usize) -> u32
     ensures { result ≡ number_of at bytes.now }
 {
-    if bytes.len() < 4 {
+    if bytes.len() < 4 || bytes.len() - 4 < at {
         return 0;
     }
-    if bytes.len() - 4 < at {
-        return 0;
-    }
-    word::get32(bytes, at)
+    word::get::<u32>(bytes, at)
 }
 
 // `count` bytes of a space, where it has them.
+#[tactic(auto, unfolding(crate::specs::Digest::part_of))]
 fn part(start: u32, space: &[u8], from: usize, count: usize) -> u32
     ensures { result ≡ part_of from count start space.now }
 {
-    if space.len() < from {
-        return start;
-    }
-    if space.len() - from < count {
+    if space.len() < from || space.len() - from < count {
         return start;
     }
     let end = from + count;

@@ -14,10 +14,8 @@ pub fn fill(memory: &mut [u8], seed: u64)
     ensures { memory.new ≡ noise_of (length memory.old) (seed % 2147483647) }
 {
     let mut power = seed % 2147483647;
-    let mut i = 0;
-    while i < memory.len() {
+    for byte in memory.iter_mut() {
         power = next(power);
-        memory[i] = (power / 8388608) as u8;
-        i += 1;
+        *byte = (power / 8388608) as u8;
     }
 }

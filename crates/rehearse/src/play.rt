@@ -8,7 +8,7 @@ use crate::call::Call;
 use crate::{call, verdict};
 
 // How many calls and sequences there were, how many of the calls the amended Rust had answered, and whether all were as recorded.
-#[derive(Clone, Copy)]
+#[derive(Clone, Copy, PartialEq, Eq, Debug)]
 pub struct Tally {
     pub calls: u64,
     pub sequences: u64,
@@ -22,7 +22,7 @@ impl Tally {
         ensures { result ≡ counted_of self tag same }
     {
         Tally {
-            calls: std::num::wrapping_add_u64(self.calls, 1),
+            calls: self.calls.wrapping_add(1),
             sequences: next_if(tag % 128 == 0, self.sequences),
             amended: next_if(tag >= 128, self.amended),
             same,
@@ -34,10 +34,7 @@ impl Tally {
 fn next_if(more: bool, count: u64) -> u64
     ensures { result ≡ next_if more count }
 {
-    if more {
-        return std::num::wrapping_add_u64(count, 1);
-    }
-    count
+    if more { count.wrapping_add(1) } else { count }
 }
 
 // Bytes that are no whole call are counted by the tag of no call.
@@ -48,9 +45,10 @@ fn length_of(call: Call, length: usize) -> usize
     ensures { result ≡ length_of call length }
 {
     if call.kind == 1 {
-        return call.first as usize;
+        call.first as usize
+    } else {
+        length
     }
-    length
 }
 
 // The calls in the bytes of a file, whatever these are.
@@ -73,6 +71,7 @@ pub fn play(
     };
     let mut length = 0;
     let mut at = 0;
+    // Each call is as long as it says, so that no range is gone through here.
     while at < all.len() {
         if all.len() - at < call::HEAD {
             return tally.counted(NO_CALL, false);

@@ -1,27 +1,27 @@
 // One recorded call on the proved device, and whether it gave what was recorded.
-ghost use Rattle.std.specs.Prelude.{◌≡◌};
+ghost use Rattle.std.specs.Prelude.{◌≡◌, ◌%◌};
 ghost use Rattle.port_device.specs.Calls.{lent};
 ghost use Rattle.rehearse.specs.Digest.{looked_of};
 ghost use Rattle.rehearse.specs.Recorded.{agrees_of};
-ghost use Rattle.rehearse.specs.Verdict.{performed, perform_of, judged, erased_of, run_of, judge_of};
+ghost use Rattle.rehearse.specs.Verdict.{performed, perform_of, judged, run_of, judge_of};
 
-use crate::call::Call;
+use crate::call::{Call, Kind};
 use crate::{calls, digest};
 
 // What bytes that a call is to give hold before it, so that those which it leaves alone are known.
 const UNTOUCHED: u8 = 0xee;
 
-fn erase(into: &mut [u8])
-    ensures { into.new ≡ erased_of into.old }
+// What a byte that is no kind returns, as no call does.
+const NONE: u64 = 255;
+
+// The low 32 bits.
+fn low(x: u64) -> u32
+    ensures { result ≡ x % 4294967296 }
 {
-    let mut i = 0;
-    while i < into.len() {
-        into[i] = UNTOUCHED;
-        i += 1;
-    }
+    (x % 4294967296) as u32
 }
 
-// The call by its kind.
+// The call by its kind. The spaces stay parameters: with a struct of these `&mut`s `judge`'s `returns` stayed open, that `device.new` is what `run` left in its field.
 fn perform(
     call: Call,
     bytes: &[u8],
@@ -34,42 +34,53 @@ fn perform(
 ) -> u64
     ensures { performed result (lent device.new host.new lists.new queues.new memory.new) into.new ≡ perform_of call bytes.now (lent device.old host.old lists.old queues.old memory.old) into.old }
 {
-    let kind = call.kind;
-    if kind == 0 {
-        return calls::fresh(device, host, lists, queues, call.first != 0);
-    }
-    if kind < 10 {
-        return calls::memory(memory, kind, call.first, call.second, bytes);
-    }
-    if kind == 15 {
-        return port_device::set_paused(device, host, lists, queues, call.first != 0);
-    }
-    if kind < 20 {
-        return calls::change(
+    let first = call.first;
+    let second = call.second;
+    match Kind::from(call.kind) {
+        Kind::Fresh => calls::fresh(device, host, lists, queues, first != 0),
+        Kind::Noise => calls::noise(memory, second),
+        Kind::Poke => calls::poke(memory, first, bytes),
+        Kind::Look => 0,
+        Kind::Advance => port_device::advance(device, host, lists, queues, memory, first),
+        Kind::Write => port_device::write(device, host, lists, queues, memory, first, bytes),
+        Kind::BarWrite => port_device::bar_write(
             device,
             host,
             lists,
             queues,
             memory,
-            kind,
-            call.first,
-            call.second,
+            low(second),
+            first,
             bytes,
-        );
-    }
-    if kind < 30 {
-        return calls::show(
+        ),
+        Kind::ConfigWrite => {
+            port_device::config_write(device, host, lists, queues, memory, first, second, bytes)
+        }
+        Kind::PinPresence => {
+            port_device::pin_presence_changed(device, host, lists, queues, memory, low(first))
+        }
+        Kind::Pause => port_device::set_paused(device, host, lists, queues, first != 0),
+        Kind::Restore => port_device::restore(true, device, host, lists, queues, bytes),
+        Kind::RestoreEmptied => port_device::restore(false, device, host, lists, queues, bytes),
+        Kind::Read => port_reads::read(device, host, lists, queues, first, into),
+        Kind::BarRead => port_reads::bar_read(
             device,
             host,
             lists,
             queues,
+            low(second),
+            first,
             into,
-            kind,
-            call.first,
-            call.second,
-        );
+        ),
+        Kind::ConfigRead => port_reads::config_read(device, host, lists, queues, first),
+        Kind::Save => port_reads::save(device, host, lists, queues, into),
+        Kind::Feed => port_host::feed(host, queues, bytes),
+        Kind::Pull => port_host::pull(host, queues, into),
+        Kind::PlaybackFails => port_host::set_playback_fails(host, queues, first != 0),
+        Kind::CaptureFails => port_host::set_capture_fails(host, queues, first != 0),
+        Kind::Downstream => port_host::set_downstream(host, queues, low(first)),
+        Kind::Unknown => NONE,
     }
-    calls::host(host, queues, into, kind, call.first, bytes)
 }
 
 // Kind 3 looks at guest memory, any other at what device and host end hold.
@@ -109,7 +120,7 @@ fn run(
 ) -> bool
     ensures { judged result (lent device.new host.new lists.new queues.new memory.new) into.new ≡ run_of call bytes.now (lent device.old host.old lists.old queues.old memory.old) into.old }
 {
-    erase(into);
+    into.fill(UNTOUCHED);
     let reply = perform(call, bytes, device, host, lists, queues, memory, into);
     let digest = digest_of(call.kind, into, device, host, lists, queues, memory);
     agrees(call, reply, digest)

@@ -4,20 +4,11 @@ use borrow.Author.Tests.{lt-leb}
 use Rattle.replay.specs.Hex.{hex_digit_ascii, value_of, pair_of, from_hex, to_hex}
 use Rattle.replay.proofs.Stores.{stored}
 
-pub value-below : (c : ℕ) → c < 48 → 0 ≡ value_of c
-value-below c h = simp (lt-leb 48 c h, lt-leb 97 c (omega arith))
-
 pub value-decimal : (c : ℕ) → 48 ≤ c → c ≤ 57 → c - 48 ≡ value_of c
 value-decimal c h g = simp (le-leb 48 c h, le-leb c 57 g)
 
-pub value-between : (c : ℕ) → 57 < c → c < 97 → 0 ≡ value_of c
-value-between c h g = simp (le-leb 48 c (omega arith), lt-leb c 57 h, lt-leb 97 c g)
-
 pub value-letter : (c : ℕ) → 97 ≤ c → c ≤ 102 → c - 97 + 10 ≡ value_of c
 value-letter c h g = simp (le-leb 48 c (omega arith), lt-leb c 57 (omega arith), le-leb 97 c h, le-leb c 102 g)
-
-pub value-above : (c : ℕ) → 102 < c → 0 ≡ value_of c
-value-above c h = simp (le-leb 48 c (omega arith), lt-leb c 57 (omega arith), le-leb 97 c (omega arith), lt-leb c 102 h)
 
 -- the byte of two characters, in front of what the rest gives
 from_next : (text : List ℕ) (i : ℕ) → 2 * i + 1 < length text →

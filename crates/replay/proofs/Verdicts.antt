@@ -6,8 +6,8 @@ use borrow.Author.Tests.{lt-leb}
 use Rattle.replay.specs.declared.verdict.Verdict.{Verdict}
 use Rattle.replay.specs.declared.verdict.Verdict.TheVariants.{Same, Differs, Unreadable}
 use Rattle.replay.specs.Hex.{from_hex, to_hex}
-use Rattle.replay.specs.Answers.{Answered, answered, is_amended, answer_of}
-use Rattle.replay.specs.Verdict.{equal, own_of, verdict_of, readable, line_verdict_of, own_in, amended_line}
+use Rattle.replay.specs.Answers.{Answered, answered, answer_of}
+use Rattle.replay.specs.Verdict.{equal, own_of, verdict_of, readable, line_verdict_of, own_in}
 
 -- `equal` tells whether two texts are the same
 pub equal-self : (l : List ℕ) → equal l l ≡ true
@@ -85,15 +85,6 @@ module _ (line room : List ℕ) where
       let all : take (length line - 1) (drop 1 line) ≡ drop 1 line = take_all (length line - 1) (drop 1 line) (omega (arith, length-drop 1 line)) in
       let read = odd-readable line odd h in
       (e ∙ rw (read, all), rw (f, read, all))
-
--- whether a line says that the amended Rust answered
-pub amended-empty : (line : List ℕ) → length line ≡ 0 → false ≡ amended_line line
-amended-empty [] e = refl
-amended-empty (letter ∷ digits) e = absurd (omega arith)
-
-pub amended-letter : (line : List ℕ) → (length line ≡ 0 → ⊥) → is_amended (get_or line 0 0) ≡ amended_line line
-amended-letter [] h = absurd (h refl)
-amended-letter (letter ∷ digits) h = refl
 
 -- the parts that a line's digits, their bytes and the proved code's digits take up
 pub prefix-length : (n : ℕ) (l : List ℕ) → n ≤ length l → n ≡ length (take n l)

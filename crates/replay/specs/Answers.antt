@@ -1,12 +1,10 @@
 -- The recorded answers of the Rust, and what the proved leaves answer: each layout gives the places of what a leaf was handed and of its answer. Numbers stand
 -- with the lowest byte first. The letter in front of a record names the leaf, and says which Rust answered.
-use Rattle.std.specs.Prelude.{ℕ, ◌+◌, ◌-◌, ◌*◌, Bool, true, false, cond, not, ◌&&◌, List, ◌++◌, length, take, drop, ◌==◌, nat_le, nat_lt, slice_index, slice_set}
+use Rattle.std.specs.Prelude.{ℕ, ◌+◌, ◌-◌, ◌*◌, Bool, true, false, cond, not, ◌&&◌, List, Option, None, Some, ◌++◌, length, take, drop, ◌==◌, nat_le, nat_lt, slice_index, slice_set}
 use Rattle.word.specs.Place.{word_at, store_at}
 use Rattle.format.specs.Format.{format_of, rate_of}
 use Rattle.gain.specs.Gain.{gain_of, amplified_of}
 use Rattle.codec.specs.declared.Outcome.{Outcome}
-use Rattle.codec.specs.declared.Reply.{Reply}
-use Rattle.codec.specs.declared.Reply.TheVariants.{Nothing, Value}
 use Rattle.codec.specs.Codecs.{verb_of, connected_of}
 use Rattle.codec.specs.Bytes.{codec_at, store_codec_at}
 use Rattle.clock.specs.declared.Clock.{Clock}
@@ -41,18 +39,14 @@ gain_answer b =
     cond (nat_lt (length b) 4) (answered false b)
     (sized (4 + 2 * pcm_of b) b (take (4 + pcm_of b) b ++ amplified_of (gain_of (slice_index b 0)) (gain_of (slice_index b 1)) (samples_of b)))
 
--- the same record with the samples themselves in the place of the amplified ones
-unfoldable pub repeated : ℕ → List ℕ → List ℕ
-repeated pcm b = take (4 + pcm) b ++ take pcm (drop 4 b)
-
 -- V: codec (144), command (4); how many words are replied (1), the word (4), the codec after it (144)
-abbrev pub count_of : Reply → ℕ
-count_of Nothing = 0
-count_of (Value v) = 1
+abbrev pub count_of : Option ℕ → ℕ
+count_of None = 0
+count_of (Some v) = 1
 
-abbrev pub value_of : Reply → ℕ
-value_of Nothing = 0
-value_of (Value v) = v
+abbrev pub value_of : Option ℕ → ℕ
+value_of None = 0
+value_of (Some v) = v
 
 abbrev pub store_outcome : Outcome → List ℕ → List ℕ
 store_outcome o b = store_codec_at 153 o.codec (store_at 4 149 (value_of o.reply) (slice_set b 148 (count_of o.reply)))

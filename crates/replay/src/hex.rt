@@ -7,16 +7,10 @@ fn value(c: u8) -> u8
     ensures value { result ≡ value_of c }
     ensures upper_bound { result < 16 }
 {
-    if c < b'0' {
-        0
-    } else if c <= b'9' {
-        c - b'0'
-    } else if c < b'a' {
-        0
-    } else if c <= b'f' {
-        c - b'a' + 10
-    } else {
-        0
+    match c {
+        b'0'..=b'9' => c - b'0',
+        b'a'..=b'f' => c - b'a' + 10,
+        _ => 0,
     }
 }
 
@@ -39,11 +33,8 @@ pub fn decode(text: &[u8], bytes: &mut [u8])
     requires { length text.now ≡ 2 * length bytes.old }
     ensures { bytes.new ≡ from_hex text.now }
 {
-    let mut i = 0;
-    while i < bytes.len() {
-        let j = 2 * i;
-        bytes[i] = pair(text[j], text[j + 1]);
-        i += 1;
+    for (i, byte) in bytes.iter_mut().enumerate() {
+        *byte = pair(text[2 * i], text[2 * i + 1]);
     }
 }
 
@@ -52,13 +43,8 @@ pub fn encode(bytes: &[u8], text: &mut [u8])
     requires { length text.old ≡ 2 * length bytes.now }
     ensures { text.new ≡ to_hex bytes.now }
 {
-    let mut i = 0;
-    while i < bytes.len() {
-        let b = bytes[i];
-        let j = 2 * i;
-        let k = j + 1;
-        text[j] = digit(b / 16);
-        text[k] = digit(b % 16);
-        i += 1;
+    for (i, byte) in bytes.iter().enumerate() {
+        text[2 * i] = digit(byte / 16);
+        text[2 * i + 1] = digit(byte % 16);
     }
 }

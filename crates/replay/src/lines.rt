@@ -25,6 +25,7 @@ pub fn judge_all<W: Write>(out: &mut W, all: &[u8]) -> io::Result<Tally>
         differ: 0,
     };
     let mut start = 0;
+    // Not by `split`, which gives one line more behind the last line end.
     while start < all.len() {
         let stop = start + line_size(&all[start..]);
         tally = judge_one(out, &all[start..stop], tally)?;
@@ -52,7 +53,7 @@ fn judge_one<W: Write>(out: &mut W, line: &[u8], tally: Tally) -> io::Result<Tal
     let mut own = [0; 4096];
     let found = verdict::judge_line(line, &mut own);
     if tally.differ < MOST_PRINTED {
-        let number = std::num::wrapping_add_u64(tally.lines, 1);
+        let number = tally.lines.wrapping_add(1);
         report(out, number, line, &own, found)?;
     }
     Ok(tally.counted(found).attributed(verdict::is_amended(line)))
@@ -95,7 +96,7 @@ fn print_line<W: Write>(out: &mut W, number: u64, line: &[u8]) -> io::Result<()>
 fn print_own<W: Write>(out: &mut W, line: &[u8], own: &[u8]) -> io::Result<()>
     ensures { OnOk result (Appends (W.contents out.old) (W.contents out.new) (own_text line.now own.now)) }
 {
-    if line.len() == 0 {
+    if line.is_empty() {
         return Ok(());
     }
     let digits = line.len() - 1;

@@ -2,7 +2,7 @@
 ghost use Rattle.std.specs.Prelude.{◌≡◌, ◌*◌, ◌≤◌, length};
 ghost use Rattle.replay.specs.Verdict.{equal, own_of, verdict_of, line_verdict_of, own_in, counted_of, amended_line, attributed_of};
 
-#[derive(Clone, Copy)]
+#[derive(Clone, Copy, PartialEq, Eq, Debug)]
 pub enum Verdict {
     Same,
     Differs,
@@ -45,10 +45,7 @@ pub fn judge_line(line: &[u8], own: &mut [u8]) -> Verdict
     ensures value { result ≡ line_verdict_of line.now }
     ensures own_after { own.new ≡ own_in line.now own.old }
 {
-    if line.len() % 2 == 0 {
-        return Verdict::Unreadable;
-    }
-    if line.len() > LONGEST {
+    if line.len() % 2 == 0 || line.len() > LONGEST {
         return Verdict::Unreadable;
     }
     let digits = line.len() - 1;
@@ -61,14 +58,14 @@ pub fn judge_line(line: &[u8], own: &mut [u8]) -> Verdict
 pub fn is_amended(line: &[u8]) -> bool
     ensures { result ≡ amended_line line.now }
 {
-    if line.len() == 0 {
-        return false;
+    match line.first() {
+        Some(letter) => crate::answers::is_amended(*letter),
+        None => false,
     }
-    crate::answers::is_amended(line[0])
 }
 
 // How many lines there were, how many of them the amended Rust answered, and how many the proved code answers in another way or cannot read.
-#[derive(Clone, Copy)]
+#[derive(Clone, Copy, PartialEq, Eq, Debug)]
 pub struct Tally {
     pub lines: u64,
     pub amended: u64,
@@ -79,23 +76,14 @@ impl Tally {
     pub fn counted(self, verdict: Verdict) -> Tally
         ensures { result ≡ counted_of self verdict }
     {
-        let lines = std::num::wrapping_add_u64(self.lines, 1);
-        match verdict {
-            Verdict::Same => Tally {
-                lines,
-                amended: self.amended,
-                differ: self.differ,
-            },
-            Verdict::Differs => Tally {
-                lines,
-                amended: self.amended,
-                differ: std::num::wrapping_add_u64(self.differ, 1),
-            },
-            Verdict::Unreadable => Tally {
-                lines,
-                amended: self.amended,
-                differ: std::num::wrapping_add_u64(self.differ, 1),
-            },
+        let differ = match verdict {
+            Verdict::Same => self.differ,
+            Verdict::Differs | Verdict::Unreadable => self.differ.wrapping_add(1),
+        };
+        Tally {
+            lines: self.lines.wrapping_add(1),
+            differ,
+            ..self
         }
     }
 
@@ -107,9 +95,8 @@ impl Tally {
             return self;
         }
         Tally {
-            lines: self.lines,
-            amended: std::num::wrapping_add_u64(self.amended, 1),
-            differ: self.differ,
+            amended: self.amended.wrapping_add(1),
+            ..self
         }
     }
 }

@@ -1,15 +1,14 @@
 -- What a C function returns (docs/LAYOUT.md), and the test of the records that it is handed.
-use Rattle.std.specs.Prelude.{ℕ, ◌+◌, ◌*◌, ◌%◌, ◌^◌, Bool, true, false, cond, ◌&&◌, List}
-use Rattle.pci.specs.declared.Msi.{Msi}
-use Rattle.pci.specs.declared.Msi.TheVariants.{None, Message}
+use Rattle.std.specs.Prelude.{ℕ, ◌+◌, ◌*◌, ◌%◌, ◌^◌, Bool, true, false, cond, ◌&&◌, List, Option, None, Some}
+use Rattle.pci.specs.declared.Message.{Message}
 use Rattle.device.specs.Machines.{short_of}
 use Rattle.record.specs.Loads.{is_device}
 use Rattle.host_record.specs.Hosts.{is_host}
 
 -- whether there is a message to send; its address and data are those of the configuration that the call leaves
-abbrev pub is_sent : Msi → Bool
+abbrev pub is_sent : Option Message → Bool
 is_sent None = false
-is_sent (Message address value) = true
+is_sent (Some _) = true
 
 abbrev pub bit_of : Bool → ℕ → ℕ
 bit_of on place = cond on place 0

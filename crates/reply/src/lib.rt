@@ -4,27 +4,22 @@
 ghost use Rattle.std.specs.Prelude.{◌≡◌, ◌≤◌};
 ghost use Rattle.reply.specs.Replies.{is_sent, bit_of, reply_of, fill_reply_of, unreadable_of, is_machine};
 
-use pci::Msi;
+use pci::Message;
+use refusal::Refusal;
 
 // Whether there is a message to send.
-pub fn is_sent(msi: Msi) -> bool
+pub fn is_sent(msi: Option<Message>) -> bool
     ensures { result ≡ is_sent msi }
 {
-    match msi {
-        Msi::None => false,
-        Msi::Message {
-            address: _,
-            value: _,
-        } => true,
-    }
+    msi.is_some()
 }
 
 // The number that stands for all that a call answers beside its bytes.
 pub fn reply(number: u32, level: bool, sent: bool, value: u32) -> u64
     ensures { result ≡ reply_of number level sent value }
 {
-    let low = ((number % 256) as u64) + bit(level, 0x100) + bit(sent, 0x200);
-    low + 0x1_0000_0000 * (value as u64)
+    let low = u64::from(number % 256) + bit(level, 0x100) + bit(sent, 0x200);
+    low + 0x1_0000_0000 * u64::from(value)
 }
 
 fn bit(on: bool, place: u64) -> u64
@@ -37,19 +32,20 @@ fn bit(on: bool, place: u64) -> u64
 pub fn fill_reply(number: u32, count: u64, rate: u32) -> u64
     ensures { result ≡ fill_reply_of number count rate }
 {
-    let low = ((number % 256) as u64) + 0x100 * (count % 0x10_0000_0000);
-    low + 0x1000_0000_0000 * ((rate % 0x10_0000) as u64)
+    let low = u64::from(number % 256) + 0x100 * (count % 0x10_0000_0000);
+    low + 0x1000_0000_0000 * u64::from(rate % 0x10_0000)
 }
 
-// For bytes that are no record: 10 where spaces are short, else 9.
+// What is returned for bytes that are no record, where short spaces are told first.
 pub fn unreadable(lists: usize, queues: usize) -> u64
     ensures { result ≡ unreadable_of lists queues }
 {
-    if device::is_short(lists, queues) {
-        10
+    let refusal = if device::is_short(lists, queues) {
+        Refusal::LentSpace
     } else {
-        9
-    }
+        Refusal::State
+    };
+    u64::from(refusal.number())
 }
 
 // Whether both are records.

@@ -11,7 +11,7 @@ use lib.Seq.{take-take}
 use Rattle.word.specs.Each.{each_of, always}
 use Rattle.word.specs.Parts.{part_of}
 use Rattle.word.proofs.Lists.{length_part}
-use Rattle.word.proofs.Put.{length-put, put-there, put-part-elsewhere}
+use Rattle.word.proofs.Puts.{length-put, put-there, put-part-elsewhere}
 use Rattle.word.proofs.Each.{each_keeps}
 use Rattle.positions.specs.Positions.{positions_of}
 use Rattle.positions.proofs.View.{positions-take}

@@ -15,7 +15,7 @@ use Rattle.stream.proofs.Validity.{valid-parts}
 use Rattle.host.specs.declared.Host.{Host}
 use Rattle.registers.specs.Places.{walclk}
 use Rattle.rings.specs.declared.Link.{Link}
-use Rattle.pci.specs.declared.Msi.TheVariants.{None}
+use Rattle.std.specs.Prelude.{None}
 use Rattle.device.specs.declared.Hda.{Hda}
 use Rattle.device.specs.declared.Answer.{Answer}
 use Rattle.device.specs.Devices.{hda}
@@ -23,6 +23,7 @@ use Rattle.device.specs.Machines.{check_of, answer_of, finish_of}
 use Rattle.record.specs.Loads.{flag_at, block_at, link_at, clock_at}
 use Rattle.parse.specs.States.{place_of, state_number}
 use Rattle.parse.proofs.Theorems.{taken-streams}
+use Rattle.parse.proofs.Choices.{both-pass}
 use Rattle.restore.specs.Restores.{stream_of, Fits, opening_number, later_of, restored_streams, restored_lists, restored_host, restored_device, restored_out, number_of, restore_step, restore_of}
 
 -- a state that is taken
@@ -42,12 +43,9 @@ unfolding restored_device
 device-made strict s d own later shows file stored space chip list = rw (stored, shows, file, space, chip, list, later, own)
 
 -- the number as the code has it: the state's, or that of the openings
-module _ (strict : Bool) (s : List ℕ) (d : Hda) (h : Host) (number : ℕ) (given : number ≡ state_number strict s d.microphone d.config) where
-  pub state-number : (number ≡ 0 → ⊥) → number ≡ number_of strict s d h
-  state-number refused = rw (← given, ne_eqb _ _ refused)
-
-  pub opening-number : number ≡ 0 → {opening : ℕ} → opening ≡ opening_number s d.microphone h → opening ≡ number_of strict s d h
-  opening-number passed e = rw (← given, passed, ← e)
+-- where all tests are passed, those of the state are
+pub state-passed : (strict : Bool) (s : List ℕ) (d : Hda) (h : Host) → number_of strict s d h ≡ 0 → state_number strict s d.microphone d.config ≡ 0
+state-passed strict s d h z = (both-pass (state_number strict s d.microphone d.config) (opening_number s d.microphone h) z).0
 
 module _ (strict : Bool) (s : List ℕ) (d : Hda) (h : Host) (lists : List ℕ) {number : ℕ} (given : number ≡ number_of strict s d h) where
   pub refused : (number ≡ 0 → ⊥) → {r : Answer} → r ≡ answer_of number None d h → restored_out r lists ≡ restore_step strict s d h lists

@@ -10,6 +10,7 @@ use lib.Dec.{eqb, ltb}
 use lib.ListN.{drop}
 use lib.Seq.{take-take}
 use Rattle.word.specs.Value.{value_of}
+use Rattle.std.specs.List.{list_all}
 use Rattle.word.specs.Place.{word_at}
 use Rattle.word.specs.Parts.{part_of}
 use Rattle.word.proofs.Choices.{left, by_cond}
@@ -62,7 +63,7 @@ empty-valid : (live : Bool) → valid_queue (queue live 0) ≡ true
 empty-valid true = refl
 empty-valid false = refl
 
-every-row : (f : ℕ → Queue) → ((k : ℕ) → valid_queue (f k) ≡ true) → (n i : ℕ) → hosts.every valid_queue (row_of f n i) ≡ true
+every-row : (f : ℕ → Queue) → ((k : ℕ) → valid_queue (f k) ≡ true) → (n i : ℕ) → list_all valid_queue (row_of f n i) ≡ true
 unfolding row_of
 every-row f h zero i = refl
 every-row f h (suc n) i = rw (h i, every-row f h n (i + 1))

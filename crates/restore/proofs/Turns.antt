@@ -1,11 +1,14 @@
--- The loops over streams: the scan of the openings, and a stream's positions put into its part of the lists. Assumes nothing.
+-- The loops over streams: the scan of the openings, a list that is filled, and a stream's positions put into its part of the lists. Assumes nothing.
 use Prim.Native.Nat.{ℕ, zero, suc, ◌+◌, ◌-◌, ◌*◌, ◌≤◌, ◌<◌}
 use mathlib.Core.Path.{◌≡◌, refl, ap, ◌∙◌}
-use mathlib.Core.Bool.{Bool, true, false, ◌&&◌}
-use mathlib.Core.List.{List}
+use mathlib.Core.Bool.{Bool, ◌&&◌}
+use mathlib.Core.List.{List, ◌++◌, append_assoc, append-nil}
 use native.Mathlib.Omega.{arith}
-use lib.ListN.{length, take, drop, length-drop}
-use lib.Seq.{take_all}
+use native.Mathlib.Numerals.{add-one}
+use lib.ListN.{length, take, drop, set, length-drop}
+use lib.Seq.{take_all, take-suc-set}
+use Rattle.std.specs.List.{list_any, range_with_len}
+use Rattle.record.specs.Rows.{row_of}
 use Rattle.word.specs.Place.{put_at}
 use Rattle.word.proofs.Lists.{length_part}
 use Rattle.stream.specs.declared.Stream.{Stream}
@@ -19,23 +22,24 @@ use Rattle.restore.specs.Restores.{opens_of, refused_from, kept_of, restored_str
 use Rattle.restore.proofs.Places.{read_same, read-room}
 use Rattle.restore.proofs.Streams.{kept-few}
 
--- the opening of stream i, and those after it
-module _ (s : List ℕ) (microphone : Bool) (h : Host) (count i : ℕ) where
-  pub refused-more : (n : ℕ) → i + n ≡ count → i < count → (opens_of s microphone i && fails_of h i) ≡ false
-      → (k : ℕ) × (i + 1 + k ≡ count) × (refused_from n i s microphone h ≡ refused_from k (i + 1) s microphone h)
-  unfolding refused_from
-  refused-more zero hn b e = absurd (omega arith)
-  refused-more (suc k) hn b e = (k, omega arith, rw e)
+-- what the scan of the openings over the numbers gives
+pub refused_list : (s : List ℕ) (microphone : Bool) (h : Host) (n i : ℕ)
+    → list_any (λ (k : ℕ). opens_of s microphone k && fails_of h k) (range_with_len i n) ≡ refused_from n i s microphone h
+unfolding refused_from
+refused_list s microphone h zero i = refl
+refused_list s microphone h (suc n) i = rw (refused_list s microphone h n (i + 1)) refl
 
-  pub refused-stop : (n : ℕ) → i + n ≡ count → i < count → (opens_of s microphone i && fails_of h i) ≡ true → refused_from n i s microphone h ≡ true
-  unfolding refused_from
-  refused-stop zero hn b e = absurd (omega arith)
-  refused-stop (suc k) hn b e = rw e
+-- a list of which the first `i` are filled, and the others are those of the row
+module _ {A : Type 0} (f : ℕ → A) (n i : ℕ) (l : List A) (count : length l ≡ n) where
+  pub fill-turn : (v : A) → v ≡ f i → i < n → take (i + 1) (set l i v) ++ row_of f (n - (i + 1)) (i + 1) ≡ take i l ++ row_of f (n - i) i
+  unfolding row_of
+  fill-turn v e h =
+      let more : n - i ≡ suc (n - (i + 1)) = omega arith in
+      rw (more, add-one i, take-suc-set l i v (omega arith), append_assoc, e)
 
-  pub refused_end : (n : ℕ) → i + n ≡ count → count ≤ i → refused_from n i s microphone h ≡ false
-  unfolding refused_from
-  refused_end zero hn b = refl
-  refused_end (suc k) hn b = absurd (omega arith)
+  pub fill_end : n ≤ i → l ≡ take i l ++ row_of f (n - i) i
+  unfolding row_of
+  fill_end h = let none : n - i ≡ 0 = omega arith in rw (none, take_all i l (omega arith), append-nil)
 
 -- stream i as the code has it: read at its place, and put in force with the state from its list on at hand
 module _ (strict : Bool) (s : List ℕ) (i at : ℕ) (t u : Stream) (place : at ≡ place_of s i) (own : t ≡ stream_at at s)

@@ -1,6 +1,6 @@
 -- The calls `restore` (document 01, "Numbers returned" and "Where port and Rust part"; the Rust's `restore_state`) and, for states with crowded lists, `restore_emptied`
 -- (request T-09): `strict` is true for the first, which refuses them, and false for the second, which empties those lists.
-use Rattle.std.specs.Prelude.{ℕ, zero, suc, ◌+◌, ◌*◌, ◌≤◌, ◌<◌, Bool, false, cond, not, ◌&&◌, ◌||◌, List, length, take, drop, eqb, ltb}
+use Rattle.std.specs.Prelude.{ℕ, zero, suc, ◌+◌, ◌*◌, ◌≤◌, ◌<◌, Bool, false, cond, not, ◌&&◌, ◌||◌, List, length, take, drop, eqb, ltb, None}
 use Rattle.word.specs.Place.{put_at, store_at}
 use Rattle.word.specs.Each.{each_of, always}
 use Rattle.clock.specs.declared.Clock.{Clock}
@@ -13,7 +13,6 @@ use Rattle.queue.specs.Queues.{queue}
 use Rattle.host.specs.declared.Host.{Host}
 use Rattle.host.specs.Hosts as hosts
 use Rattle.registers.specs.Places.{walclk, ctl, byte_at, has}
-use Rattle.pci.specs.declared.Msi.TheVariants.{None}
 use Rattle.device.specs.declared.Hda.{Hda}
 use Rattle.device.specs.declared.Answer.{Answer}
 use Rattle.device.specs.Devices.{hda}

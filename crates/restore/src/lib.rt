@@ -5,13 +5,15 @@
 ghost use Rattle.std.specs.Prelude.{◌≡◌, ◌+◌, ◌*◌, ◌≤◌, ◌<◌, length};
 ghost use Rattle.stream.specs.Box.{streams};
 ghost use Rattle.stream.specs.Streams.{list_size};
-ghost use Rattle.host.specs.Hosts.{fails_of};
-ghost use Rattle.restore.specs.Restores.{opens_of, opening_number, later_of, kept_of, restored_streams, restored_lists, restored_queues, restored_host, restored_device, Fits, restored_out, restore_step, restore_of};
+ghost use Rattle.refusal.specs.Refusals.{outcome_of};
+ghost use Rattle.restore.specs.Restores.{opens_of, opening_number, later_of, kept_of, restored_streams, restored_lists, restored_queues, restored_host, restored_device, Fits, number_of, restored_out, restore_step, restore_of};
 
 use clock::Clock;
 use device::{Answer, Hda};
 use host::Host;
 use queue::Queue;
+use refusal::Refusal;
+use std::array;
 use stream::{STREAMS, Stream};
 
 // Whether a stream of the state is to be open: it runs, and an input only on a device with a microphone.
@@ -25,46 +27,28 @@ fn opens(state: &[u8], microphone: bool, index: usize) -> bool
     (control & 2 != 0) & (!stream::is_capture(index) | microphone)
 }
 
-// The host's switch that makes a stream's opening fail.
-fn fails(host: Host, index: usize) -> bool
-    ensures { result ≡ fails_of host index }
-{
-    if stream::is_capture(index) {
-        host.capture
-    } else {
-        host.playback
-    }
-}
-
-// 1 where the host refuses an opening.
-fn opening_number(state: &[u8], microphone: bool, host: Host) -> u32
+// Whether the host takes every opening.
+fn check_openings(state: &[u8], microphone: bool, host: Host) -> Result<(), Refusal>
     requires { 680 ≤ length state.now }
-    ensures { result ≡ opening_number state.now microphone host }
+    ensures { outcome_of result ≡ opening_number state.now microphone host }
 {
-    let count = STREAMS;
-    let mut index = 0;
-    while index < count {
-        let refused = opens(state, microphone, index) & fails(host, index);
-        if refused {
-            return 1;
-        }
-        index += 1;
+    if (0..STREAMS).any(|index| opens(state, microphone, index) && host.fails(index)) {
+        Err(Refusal::HostClosed)
+    } else {
+        Ok(())
     }
-    0
 }
 
 // The later of two clocks.
+#[tactic(auto, unfolding(crate::specs::Restores::later_of))]
 fn later(own: Clock, other: Clock) -> Clock
     ensures { result ≡ later_of own other }
 {
-    if own.ticks < other.ticks {
-        return other;
+    if (own.ticks, own.fraction) < (other.ticks, other.fraction) {
+        other
+    } else {
+        own
     }
-    let ahead = (own.ticks == other.ticks) & (own.fraction < other.fraction);
-    if ahead {
-        return other;
-    }
-    own
 }
 
 // A stream as it is put in force: with an empty list where its own is crowded and that is not refused.
@@ -72,13 +56,11 @@ fn kept(strict: bool, s: Stream, list: &[u8]) -> Stream
     requires { 8 * s.pending ≤ length list.now }
     ensures { result ≡ kept_of strict s list.now }
 {
-    if strict {
-        return s;
+    if strict || s.uncrowded(list) {
+        s
+    } else {
+        s.emptied()
     }
-    if s.uncrowded(list) {
-        return s;
-    }
-    s.emptied()
 }
 
 // The streams of a state.
@@ -86,17 +68,14 @@ fn restored_streams(strict: bool, state: &[u8]) -> [Stream; STREAMS]
     requires { Fits state.now }
     ensures { result ≡ restored_streams strict streams 0 state.now }
 {
-    let fresh = Stream::fresh();
-    let mut loaded = [fresh; STREAMS];
-    let count = STREAMS;
+    // No `from_fn`: the place runs along, and a closure that changes what it captures would need a contract of its own.
+    let mut loaded = [Stream::fresh(); STREAMS];
     let mut at = record::HEAD;
-    let mut index = 0;
-    while index < count {
+    for index in 0..STREAMS {
         let s = record::load_stream(state, at);
         let start = at + record::NUMBERS;
         loaded[index] = kept(strict, s, &state[start..]);
         at = start + 8 * (s.pending as usize);
-        index += 1;
     }
     loaded
 }
@@ -106,17 +85,14 @@ fn restore_lists(strict: bool, state: &[u8], lists: &mut [u8])
     requires { Fits state.now × (list_size * streams ≤ length lists.old) }
     ensures { lists.new ≡ restored_lists strict state.now lists.old }
 {
-    let count = STREAMS;
     let mut at = record::HEAD;
-    let mut index = 0;
-    while index < count {
+    for index in 0..STREAMS {
         let s = record::load_stream(state, at);
         let start = at + record::NUMBERS;
         let t = kept(strict, s, &state[start..]);
         let end = start + 8 * (t.pending as usize);
         record::put(lists, Stream::LIST * index, &state[start..end]);
         at = start + 8 * (s.pending as usize);
-        index += 1;
     }
 }
 
@@ -125,22 +101,10 @@ fn restored_queues(state: &[u8], microphone: bool) -> [Queue; STREAMS]
     requires { 680 ≤ length state.now }
     ensures { result ≡ restored_queues streams 0 state.now microphone }
 {
-    let closed = Queue {
-        live: false,
+    array::from_fn(|index| Queue {
+        live: opens(state, microphone, index),
         length: 0,
-    };
-    let mut queues = [closed; STREAMS];
-    let count = STREAMS;
-    let mut index = 0;
-    while index < count {
-        let q = Queue {
-            live: opens(state, microphone, index),
-            length: 0,
-        };
-        queues[index] = q;
-        index += 1;
-    }
-    queues
+    })
 }
 
 // The host end with these queues; switches and downstream count stay.
@@ -149,10 +113,8 @@ fn restored_host(state: &[u8], microphone: bool, host: Host) -> Host
     ensures { result ≡ restored_host state.now microphone host }
 {
     Host {
-        playback: host.playback,
-        capture: host.capture,
-        downstream: host.downstream,
         queues: restored_queues(state, microphone),
+        ..host
     }
 }
 
@@ -163,17 +125,25 @@ fn restored_device(strict: bool, state: &[u8], hda: Hda) -> Hda
 {
     let clock = later(hda.clock, record::load_clock(state));
     let mut regs = record::load_block(state, record::REGISTERS);
-    word::put32_in(&mut regs, registers::WALCLK, clock.shown());
+    word::put::<u32>(&mut regs, registers::WALCLK, clock.shown());
     Hda {
         config: record::load_block(state, record::CONFIG),
-        regs: regs,
+        regs,
         link: record::load_link(state),
         streams: restored_streams(strict, state),
-        clock: clock,
+        clock,
         microphone: hda.microphone,
         paused: state[5] == 1,
         asserted: false,
     }
+}
+
+// All tests of a state on a device that passes the check.
+fn check(strict: bool, hda: Hda, host: Host, state: &[u8]) -> Result<(), Refusal>
+    ensures { outcome_of result ≡ number_of strict state.now hda host }
+{
+    parse::check_state(strict, state, hda.microphone, &hda.config)?;
+    check_openings(state, hda.microphone, host)
 }
 
 // Behind the check: the state's tests, the openings, then the change.
@@ -181,20 +151,12 @@ fn restore_step(strict: bool, hda: Hda, host: Host, lists: &mut [u8], state: &[u
     requires { list_size * streams ≤ length lists.old }
     ensures { restored_out result lists.new ≡ restore_step strict state.now hda host lists.old }
 {
-    let microphone = hda.microphone;
-    let config = hda.config;
-    let number = parse::state_number(strict, state, microphone, &config);
-    if number != 0 {
-        return hda.answer(host, number);
-    }
-    let opening = opening_number(state, microphone, host);
-    if opening != 0 {
-        return hda.answer(host, opening);
+    if let Err(refusal) = check(strict, hda, host, state) {
+        return hda.answer(host, refusal.number());
     }
     restore_lists(strict, state, lists);
-    let d = restored_device(strict, state, hda);
-    let h = restored_host(state, microphone, host);
-    d.finish(h, 0)
+    let restored = restored_device(strict, state, hda);
+    restored.finish(restored_host(state, hda.microphone, host), 0)
 }
 
 // A saved state in the place of the device's own.
@@ -208,9 +170,8 @@ pub fn restore(
 ) -> Answer
     ensures { restored_out result lists.new ≡ restore_of strict state.now hda host lists.old (length queues.now) }
 {
-    let number = hda.check(host, lists, queues.len());
-    if number != 0 {
-        return hda.answer(host, number);
+    if let Err(refusal) = hda.check(host, lists, queues.len()) {
+        return hda.answer(host, refusal.number());
     }
     restore_step(strict, hda, host, lists, state)
 }

@@ -2,7 +2,7 @@
 -- nothing.
 use Prim.Native.Nat.{ℕ, zero, suc, ◌+◌, ◌-◌, ◌/◌, ◌%◌, ◌≤◌, ◌<◌}
 use mathlib.Core.Path.{◌≡◌, refl, sym, ap, ◌∙◌}
-use mathlib.Core.Bool.{Bool, true, false, not, cond, ◌&&◌, false≢true}
+use mathlib.Core.Bool.{Bool, true, false, cond, ◌&&◌, false≢true}
 use mathlib.Core.List.{List}
 use mathlib.Core.Option.{Option, none, some}
 use mathlib.Core.Logic.{◌⊎◌, inl, inr, ⊎_elim}
@@ -17,9 +17,8 @@ use Rattle.word.proofs.Choices.{by-test, both, by_value}
 use Rattle.word.proofs.Place.{length-store, bytes-store, word-store, word-elsewhere, byte-elsewhere}
 use Rattle.codec.specs.Codecs.{verb_of}
 use Rattle.codec.specs.declared.Codec.{Codec}
-use Rattle.codec.specs.declared.Reply.{Reply}
-use Rattle.codec.specs.declared.Reply.TheVariants.{Nothing, Value}
-use Rattle.registers.specs.Places.{corbrp, corbwp, corbsize, byte_at, has, dma_of}
+use Rattle.std.specs.Prelude.{Option as Reply, Some as Value, None as Nothing}
+use Rattle.registers.specs.Places.{corbrp, corbwp, corbsize, byte_at, dma_of}
 use Rattle.rings.specs.Rings.{Rings, with_regs, entries_of, answered_of, current_of, next_command, halted_of, executed_of, fetch_of, fetches_of, idle_of, running_of, commands_of, response_of}
 use Rattle.rings_hda.specs.Hda as hda
 use Rattle.rings_hda.specs.Hda.{Next, Rest, bit, Fetch, fetched}
@@ -132,7 +131,7 @@ nothing_said b e = absurd (false≢true (ap said e))
     said (some c) = true
 
 -- the codec's answer, where HDA says all of it
-answer-says : (config : List ℕ) (z : Rings) → hda.dma_of config z.regs ≡ true → (c : Codec) (reply : Reply) (rest : Rings → Run) (y : Rings)
+answer-says : (config : List ℕ) (z : Rings) → hda.dma_of config z.regs ≡ true → (c : Codec) (reply : Reply ℕ) (rest : Rings → Run) (y : Rings)
     → landing (followed c (replied_by config (ring_state z) reply) rest) ≡ some y → landing (rest (answered_of z c reply)) ≡ some y
 answer-says config z dma c Nothing rest y = λ h. h
 answer-says config z dma c (Value v) rest y =

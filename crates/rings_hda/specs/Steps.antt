@@ -5,8 +5,7 @@ use Rattle.std.specs.Int.Bits.{bit_and}
 use Rattle.word.specs.Value.{value_of, Bytes}
 use Rattle.word.specs.Place.{word_at, store_at}
 use Rattle.codec.specs.declared.Codec.{Codec}
-use Rattle.codec.specs.declared.Reply.{Reply}
-use Rattle.codec.specs.declared.Reply.TheVariants.{Nothing, Value}
+use Rattle.std.specs.Prelude.{Option as Reply, Some as Value, None as Nothing}
 use Rattle.codec.specs.Codecs.{verb_of}
 use Rattle.registers.specs.Places.{corbbase, corbrp, corbwp, rirbbase, rirbctl, byte_at, has, dma_of}
 use Rattle.rings.specs.Rings as rings
@@ -75,7 +74,7 @@ pub data Run : Type 0 where
   Silent : Run
 
 -- As HDA has them, with the device's codec (address 0) behind the link: what comes next is asked anew after each command, until none does.
-abbrev pub replied_by : List ℕ → State → Reply → Option State
+abbrev pub replied_by : List ℕ → State → Reply ℕ → Option State
 replied_by config s Nothing = some s
 replied_by config s (Value v) = hda.response_of config s 0 false v
 

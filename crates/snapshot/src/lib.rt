@@ -9,9 +9,11 @@ ghost use Rattle.snapshot.specs.Saves.{save_out, saved_of, save_step, save_of};
 
 use device::Hda;
 use host::Host;
+use refusal::Refusal;
 use stream::{STREAMS, Stream};
 
 // What `save` answers beside the lent space: its number, the INTx level, and how many bytes it wrote.
+// No Result: the C reply has all three also where the call is refused.
 #[derive(Clone, Copy)]
 pub struct Saved {
     pub number: u32,
@@ -41,13 +43,9 @@ fn size(hda: Hda) -> usize
     requires { Few hda }
     ensures { result ≡ size_of hda }
 {
-    let count = STREAMS;
     let mut bytes = record::HEAD;
-    let mut index = 0;
-    while index < count {
-        let s = hda.streams[index];
-        bytes += stream_size(s);
-        index += 1;
+    for index in 0..STREAMS {
+        bytes += stream_size(hda.streams[index]);
     }
     bytes
 }
@@ -57,28 +55,22 @@ fn put_streams(hda: Hda, lists: &[u8], into: &mut [u8])
     requires { Kept hda lists.now × (size_of hda ≤ length into.old) }
     ensures { into.new ≡ put_at 680 (streams_of streams 0 hda lists.now) into.old }
 {
-    let count = STREAMS;
     let mut at = record::HEAD;
-    let mut index = 0;
-    while index < count {
+    for index in 0..STREAMS {
         let s = hda.streams[index];
-        let start = Stream::LIST * index;
-        let end = start + Stream::LIST;
-        put_stream(s, &lists[start..end], into, at);
+        let list = Stream::LIST * index;
+        put_stream(s, &lists[list..list + Stream::LIST], into, at);
         at += stream_size(s);
-        index += 1;
     }
 }
 
 fn answer(hda: Hda, number: u32, count: u32) -> Saved
     ensures { result ≡ saved_of number hda count }
 {
-    let config = hda.config;
-    let level = pci::level(&config, &hda.regs);
     Saved {
-        number: number,
-        level: level,
-        count: count,
+        number,
+        level: pci::level(&hda.config, &hda.regs),
+        count,
     }
 }
 
@@ -89,7 +81,7 @@ fn save_step(hda: Hda, lists: &[u8], into: &mut [u8]) -> Saved
 {
     let bytes = size(hda);
     if into.len() < bytes {
-        return answer(hda, 10, 0);
+        return answer(hda, Refusal::LentSpace.number(), 0);
     }
     record::put_head(hda, into);
     put_streams(hda, lists, into);
@@ -100,9 +92,8 @@ fn save_step(hda: Hda, lists: &[u8], into: &mut [u8]) -> Saved
 pub fn save(hda: Hda, host: Host, lists: &[u8], queues: &[u8], into: &mut [u8]) -> Saved
     ensures { save_out result into.new ≡ save_of hda host lists.now (length queues.now) into.old }
 {
-    let number = hda.check(host, lists, queues.len());
-    if number != 0 {
-        return answer(hda, number, 0);
+    if let Err(refusal) = hda.check(host, lists, queues.len()) {
+        return answer(hda, refusal.number(), 0);
     }
     save_step(hda, lists, into)
 }

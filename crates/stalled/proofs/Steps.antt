@@ -30,7 +30,7 @@ use Rattle.registers.specs.Places.{dma_of}
 use Rattle.registers.specs.Reset.{reset_stream_of, reset_of}
 use Rattle.configuration.specs.Configuration as configuration
 use Rattle.rings.specs.Rings.{commands_of}
-use Rattle.pci.specs.declared.Msi.TheVariants.{None}
+use Rattle.std.specs.Prelude.{None}
 use Rattle.pci.specs.Interrupts as interrupts
 use Rattle.turn.specs.Setups.{setup_of}
 use Rattle.turn.specs.Engines.{publish_of, updated_of, frames_of, settled_of, round_of, rounds_of, served_of}

@@ -9,7 +9,7 @@ ghost use Rattle.stream.specs.Update.{left_of, update_of};
 // Streams of the box: the first half captures, the second half plays.
 pub const STREAMS: usize = 2;
 
-#[derive(Clone, Copy)]
+#[derive(Clone, Copy, PartialEq, Eq, Debug)]
 pub struct Stream {
     pub descriptor: u32,
     pub offset: u32,
@@ -23,7 +23,7 @@ pub struct Stream {
 }
 
 // What a stream's registers say of its cyclic buffer: its direction, the descriptor list's address, the last descriptor's index, and the length in bytes.
-#[derive(Clone, Copy)]
+#[derive(Clone, Copy, PartialEq, Eq, Debug)]
 pub struct Cyclic {
     pub capture: bool,
     pub bdl: u64,
@@ -31,8 +31,8 @@ pub struct Cyclic {
     pub cbl: u32,
 }
 
-// What a position update left beside the list.
-#[derive(Clone, Copy)]
+// What a position update left beside the list. No Option: the stream is there whether or not completions retired.
+#[derive(Clone, Copy, PartialEq, Eq, Debug)]
 pub struct Updated {
     pub stream: Stream,
     pub completed: bool,
@@ -52,6 +52,7 @@ impl Stream {
     pub const LIST: usize = 34_816;
 
     // A stream made or reset.
+    #[tactic(auto, unfolding(crate::specs::Streams::fresh_of))]
     pub fn fresh() -> Stream
         ensures { result ≡ fresh_of }
     {
@@ -67,24 +68,17 @@ impl Stream {
 
     // Whether the stream and its list keep the conditions of document 01's numbers 6, 7 and 8. The count is tested first: the list is
     // read no further than its places.
+    #[tactic(auto, unfolding(crate::specs::Streams::valid_of))]
     pub fn valid(self, list: &[u8]) -> bool
         requires { list_size ≤ length list.now }
         ensures { result ≡ valid_of self list.now }
     {
         let pending = self.pending as usize;
-        if pending > Stream::PLACES {
-            return false;
-        }
-        if !positions::rises(list, pending, self.consumed, self.submitted) {
-            return false;
-        }
-        if self.descriptor > 255 {
-            return false;
-        }
-        if self.consumed > self.submitted {
-            return false;
-        }
-        self.fraction < 8_193_000_000_000
+        pending <= Stream::PLACES
+            && positions::rises(list, pending, self.consumed, self.submitted)
+            && self.descriptor <= 255
+            && self.consumed <= self.submitted
+            && self.fraction < 8_193_000_000_000
     }
 
     // Whether the stream's list is not crowded: number 20 refuses a saved state where it is.
@@ -95,7 +89,7 @@ impl Stream {
         positions::spaced(
             list,
             self.pending as usize,
-            self.offset as u64,
+            u64::from(self.offset),
             self.submitted,
         )
     }
@@ -104,36 +98,26 @@ impl Stream {
     pub fn emptied(self) -> Stream
         ensures { result ≡ emptied_of self }
     {
-        Stream {
-            descriptor: self.descriptor,
-            offset: self.offset,
-            submitted: self.submitted,
-            consumed: self.consumed,
-            fraction: self.fraction,
-            pending: 0,
-        }
+        Stream { pending: 0, ..self }
     }
 
     // Moves consumed up to submitted less `latency`, and retires the completions up to it.
+    #[tactic(auto, unfolding(crate::specs::Update::update_of))]
     pub fn update(self, list: &mut [u8], latency: u64) -> Updated
         requires { (self.pending ≤ places) × (list_size ≤ length list.old) }
         ensures { left_of result list.new ≡ update_of self list.old latency }
     {
-        let heard = word::difference(self.submitted, latency);
-        let consumed = word::greatest(self.consumed, heard);
+        let consumed = self.consumed.max(self.submitted.saturating_sub(latency));
         let pending = self.pending as usize;
         let retired = positions::up_to(list, pending, consumed);
         positions::retire(list, pending, retired);
         Updated {
             stream: Stream {
-                descriptor: self.descriptor,
-                offset: self.offset,
-                submitted: self.submitted,
-                consumed: consumed,
-                fraction: self.fraction,
+                consumed,
                 pending: (pending - retired) as u32,
+                ..self
             },
-            completed: 0 < retired,
+            completed: retired > 0,
         }
     }
 }

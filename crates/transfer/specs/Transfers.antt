@@ -1,28 +1,40 @@
 -- One transfer of at most a period, between guest memory and a stream's host queue: document 01, "Stream transfer" and "Host end, added"; the Rust's
 -- `transfer` from its first test to the host's queue.
-use Rattle.std.specs.Prelude.{ℕ, ◌-◌, ◌≤◌, Bool, false, cond, List, ◌++◌, length, take, replicate}
+use Rattle.std.specs.Prelude.{ℕ, ◌-◌, ◌≤◌, Bool, false, cond, List, ◌++◌, length, take, replicate, is_none}
 use Rattle.gain.specs.Gain.{gain_of, amplified_of}
 use Rattle.stream.specs.declared.Stream.{Stream}
 use Rattle.stream.specs.declared.Cyclic.{Cyclic}
 use Rattle.stream.specs.Streams.{list_size, period}
-use Rattle.plan.specs.Plans.{ready_of}
+use Rattle.plan.specs.Plans.{limited, ready_of}
 use Rattle.pieces.specs.Pieces.{Out, state_of, pieces_of}
 use Rattle.queue.specs.declared.Queue.{Queue}
 use Rattle.queue.specs.Queues.{capacity, Moved, moved_of, put_of, take_of}
 use Rattle.transfer.specs.declared.Transferred.{Transferred}
 
+-- whether it succeeded, whether the limit of pending completions stopped it, the stream and its queue
+pub record Outcome : Type 0 where
+  pub ok : Bool
+  pub full : Bool
+  pub stream : Stream
+  pub queue : Queue
+
+-- the same of the code's answer
+abbrev pub told : Transferred → Outcome
+told r = record { ok = is_none r.stop; full = limited r.stop; stream = r.stream; queue = r.queue }
+
 -- all that a transfer leaves: the answer, the list, the queue's part of the lent space, and guest memory
 pub record Transfer : Type 0 where
-  pub transferred : Transferred
+  pub transferred : Outcome
   pub list : List ℕ
   pub part : List ℕ
   pub memory : List ℕ
 
 abbrev pub left_of : Transferred → List ℕ → List ℕ → List ℕ → Transfer
-left_of r l part m = record { transferred = r; list = l; part = part; memory = m }
+left_of r l part m = record { transferred = told r; list = l; part = part; memory = m }
 
 abbrev pub transfer_out : Bool → Bool → Stream → Queue → List ℕ → List ℕ → List ℕ → Transfer
-transfer_out ok full s q l part m = left_of (record { ok = ok; full = full; stream = s; queue = q }) l part m
+transfer_out ok full s q l part m =
+    record { transferred = record { ok = ok; full = full; stream = s; queue = q }; list = l; part = part; memory = m }
 
 -- what the pieces left, beside a queue and its part
 abbrev pub with_pieces : Out → Queue → List ℕ → Transfer

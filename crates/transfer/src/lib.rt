@@ -5,30 +5,20 @@ ghost use Rattle.std.specs.Prelude.{◌≡◌, ◌<◌, ◌≤◌, length, take}
 ghost use Rattle.queue.specs.Queues.{capacity};
 ghost use Rattle.transfer.specs.Transfers.{left_of, silence, taken_of, captured_of, heard_of, queued_in, queued_by, frames_moved, transfer_of, TransferNeeds};
 
+use plan::Stop;
 use queue::Queue;
 use stream::{Cyclic, Stream};
 
-// What a transfer left beside the lent lists: whether it succeeded, whether the limit of pending completions stopped it, the stream and its queue.
-#[derive(Clone, Copy)]
+// What a transfer left beside the lent lists: the stream, its queue, and what stopped it, if it failed.
+#[derive(Clone, Copy, PartialEq, Eq, Debug)]
 pub struct Transferred {
     pub stream: Stream,
     pub queue: Queue,
-    pub ok: bool,
-    pub full: bool,
-}
-
-// Every byte becomes 0.
-fn clear(pcm: &mut [u8])
-    ensures { pcm.new ≡ silence (length pcm.old) }
-{
-    let mut i = 0;
-    while i < pcm.len() {
-        pcm[i] = 0;
-        i += 1;
-    }
+    pub stop: Option<Stop>,
 }
 
 // A capture's samples over silence, and the queue that is left. A connected stream alone takes frames, and what it takes is amplified, by an amplifier byte for each side.
+#[tactic(auto, unfolding(queue::specs::Queues::take_into_of))]
 fn captured(
     q: Queue,
     connected: bool,
@@ -58,12 +48,13 @@ fn heard(connected: bool, left: u8, right: u8, pcm: &[u8], into: &mut [u8])
     if connected {
         gain::amplify_into_by(pcm, into, left, right);
     } else {
-        clear(into);
+        into.fill(0);
     }
 }
 
 // A playback's samples behind those queued, in one pass, and the queue that is left. A capture and a transfer that failed queue nothing. The samples stay:
 // they are lent as those who fill them have them, so that the promise can say it.
+#[tactic(auto, using(queue::proofs::Moves::reserved))]
 fn queued(
     plays: bool,
     q: Queue,
@@ -81,13 +72,14 @@ fn queued(
     }
     let reserved = q.reserve(pcm.len());
     let at = q.length as usize;
-    let end = at + (reserved.count as usize);
+    let end = at + reserved.count as usize;
     heard(connected, left, right, pcm, &mut part[at..end]);
     reserved.queue
 }
 
 // A transfer of `count` bytes that is ready: a capture's samples first, then the pieces, which move them between `pcm` and guest memory, then a playback's queue, which takes what
 // fits. `pcm` comes as silence. The pieces are called in this one place, so that the compiler sees both sides of their copies.
+#[tactic(auto, unfolding(crate::specs::Transfers::capture_of, crate::specs::Transfers::playback_of))]
 fn move_frames(
     g: Cyclic,
     s: Stream,
@@ -104,11 +96,10 @@ fn move_frames(
     requires { TransferNeeds q count list.old part.old × (0 < g.cbl) × (pcm.old ≡ silence count) }
     ensures { left_of result list.new part.new memory.new ≡ frames_moved g s q connected left right list.old part.old memory.old count }
 {
-    let taken = captured(q, g.capture & connected, left, right, part, pcm);
+    let taken = captured(q, g.capture && connected, left, right, part, pcm);
     let step = pieces::pieces(g, s, list, memory, pcm, count);
-    let next = step.stream;
     let queue = queued(
-        step.ok & !g.capture,
+        step.stop.is_none() && !g.capture,
         taken,
         connected,
         left,
@@ -117,14 +108,14 @@ fn move_frames(
         pcm,
     );
     Transferred {
-        ok: step.ok,
-        full: step.full,
-        stream: next,
-        queue: queue,
+        stream: step.stream,
+        queue,
+        stop: step.stop,
     }
 }
 
 // A transfer of `count` bytes, at most a period. A cyclic buffer that is not ready fails it before anything is moved or taken.
+#[tactic(auto, unfolding(crate::specs::Transfers::transfer_of))]
 pub fn transfer(
     g: Cyclic,
     s: Stream,
@@ -142,14 +133,12 @@ pub fn transfer(
 {
     if !plan::ready(g) {
         return Transferred {
-            ok: false,
-            full: false,
             stream: s,
             queue: q,
+            stop: Some(Stop::Failed),
         };
     }
     let mut pcm = [0u8; Stream::PERIOD];
-    let n = count as usize;
     move_frames(
         g,
         s,
@@ -160,7 +149,7 @@ pub fn transfer(
         list,
         part,
         memory,
-        &mut pcm[0..n],
+        &mut pcm[..count as usize],
         count,
     )
 }

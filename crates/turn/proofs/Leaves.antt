@@ -20,8 +20,7 @@ use Rattle.pieces.proofs.Validity.{pieces-listed}
 use Rattle.queue.specs.declared.Queue.{Queue}
 use Rattle.queue.specs.Queues.{capacity, queue, closed}
 use Rattle.host.specs.declared.Host.{Host}
-use Rattle.host.specs.declared.Opening.{Opening}
-use Rattle.host.specs.Hosts.{opening_of, open_of, fails_of, queue_at, with_queue}
+use Rattle.host.specs.Hosts.{Opening, opening_of, open_of, fails_of, queue_at, with_queue}
 use Rattle.turn.specs.Engines.{Work}
 use Rattle.turn.specs.Turns.{open_stream_of, Turn, turn_of, TurnNeeds}
 use Rattle.turn.proofs.Facts.{transfer-stream}

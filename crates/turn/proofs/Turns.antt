@@ -7,17 +7,15 @@ use native.Mathlib.Omega.{arith}
 use Rattle.word.specs.Place.{word_at}
 use Rattle.word.proofs.Choices.{by_cond}
 use Rattle.word.proofs.Lists.{at_set}
-use Rattle.format.specs.declared.Format.{Format}
-use Rattle.format.specs.declared.Format.TheVariants.{Unsupported, Rate}
+use Rattle.std.specs.Prelude.{Option, Some, None}
 use Rattle.format.specs.Format.{format_of}
 use Rattle.codec.specs.declared.Codec.{Codec}
 use Rattle.stream.specs.declared.Stream.{Stream}
 use Rattle.stream.specs.Box.{captures}
 use Rattle.queue.specs.declared.Queue.{Queue}
 use Rattle.host.specs.declared.Host.{Host}
-use Rattle.host.specs.declared.Opening.{Opening}
 use Rattle.queue.specs.Queues.{capacity, queue, closed}
-use Rattle.host.specs.Hosts.{opening_of, open_of, fails_of, queue_at, with_queue}
+use Rattle.host.specs.Hosts.{Opening, opening_of, open_of, fails_of, queue_at, with_queue}
 use Rattle.registers.specs.Places.{fmt}
 use Rattle.turn.specs.declared.Setup.{Setup}
 use Rattle.turn.specs.declared.Engine.{Engine}
@@ -71,9 +69,9 @@ module _ (P : Stream → Queue → List ℕ → Type 0) (kept : Kept P) (H : Hos
       held : P s (queue_at o.host i) l
       held = open-queue h microphone i (λ q. P s q l) holds (λ live. kept.empties s (queue_at h i) l live holds)
 
-      go : (f : Format) → Q (formatted_of regs codec h microphone i nanos limit s l part m f)
-      go Unsupported = ends false h (work_of (stopped_of (engine_of regs h i s)) l part m) unopened (stopped-keeps P kept (engine_of regs h i s) l holds)
-      go (Rate rate) =
+      go : (f : Option ℕ) → Q (formatted_of regs codec h microphone i nanos limit s l part m f)
+      go None = ends false h (work_of (stopped_of (engine_of regs h i s)) l part m) unopened (stopped-keeps P kept (engine_of regs h i s) l holds)
+      go (Some rate) =
           let g = setup_of regs codec i o.host.downstream limit in
           by_cond Q o.ok _ _ (λ _. ends false o.host (served_of g rate nanos (work_of e l part m)) opened (served-keeps P kept g rate nanos (work_of e l part m) held))
           (λ _. ends true o.host (work_of (stopped_of e) l part m) opened (stopped-keeps P kept e l held))

@@ -19,10 +19,9 @@ use Rattle.pieces.proofs.Validity.{pieces-valid}
 use Rattle.stream.proofs.Validity.{valid-parts, parts-valid, update-list-length, update-valid}
 use Rattle.queue.specs.declared.Queue.{Queue}
 use Rattle.host.specs.declared.Host.{Host}
-use Rattle.host.specs.declared.Opening.{Opening}
 use Rattle.queue.specs.Queues.{queue, closed, valid_queue}
 use Rattle.host.specs.Hosts as hosts
-use Rattle.host.specs.Hosts.{queue_at, opening_of, open_of}
+use Rattle.host.specs.Hosts.{Opening, queue_at, opening_of, open_of}
 use Rattle.host.proofs.Checks.{valid-queue}
 use Rattle.queue.proofs.Validity.{put-valid, take-valid}
 use Rattle.host.proofs.Validity.{with-queue-valid, open-valid}

@@ -1,17 +1,14 @@
 -- A stream's turn in `advance` (document 01, "Stream transfer" and "Numbers returned", 1; the Rust's loop body in `advance`).
-use Rattle.std.specs.Prelude.{ℕ, ◌≤◌, ◌<◌, Bool, true, false, cond, not, ◌&&◌, List, length, set}
+use Rattle.std.specs.Prelude.{ℕ, ◌≤◌, ◌<◌, Bool, true, false, cond, not, ◌&&◌, List, length, set, Option, Some, None}
 use Rattle.word.specs.Place.{word_at, store_at}
-use Rattle.format.specs.declared.Format.{Format}
-use Rattle.format.specs.declared.Format.TheVariants.{Unsupported, Rate}
 use Rattle.format.specs.Format.{format_of}
 use Rattle.codec.specs.declared.Codec.{Codec}
 use Rattle.stream.specs.declared.Stream.{Stream}
 use Rattle.stream.specs.Streams.{places, list_size}
 use Rattle.stream.specs.Box.{streams, captures}
 use Rattle.host.specs.declared.Host.{Host}
-use Rattle.host.specs.declared.Opening.{Opening}
 use Rattle.queue.specs.Queues.{capacity}
-use Rattle.host.specs.Hosts.{opening_of, open_of, queue_at, with_queue}
+use Rattle.host.specs.Hosts.{Opening, opening_of, open_of, queue_at, with_queue}
 use Rattle.registers.specs.Places.{ctl, sts, lpib, fmt, byte_at, keep_bits}
 use Rattle.turn.specs.declared.Setup.{Setup}
 use Rattle.turn.specs.declared.Engine.{Engine}
@@ -58,9 +55,9 @@ opened_of regs codec i rate nanos limit s l part m o =
     (finished true regs o.host i (work_of (stopped_of x.engine) l part m))
 
 -- an unsupported format stops the stream, and that is no refusal
-abbrev pub formatted_of : List ℕ → Codec → Host → Bool → ℕ → ℕ → ℕ → Stream → List ℕ → List ℕ → List ℕ → Format → Turn
-formatted_of regs codec h microphone i nanos limit s l part m Unsupported = finished false regs h i (work_of (stopped_of (engine_of regs h i s)) l part m)
-formatted_of regs codec h microphone i nanos limit s l part m (Rate rate) =
+abbrev pub formatted_of : List ℕ → Codec → Host → Bool → ℕ → ℕ → ℕ → Stream → List ℕ → List ℕ → List ℕ → Option ℕ → Turn
+formatted_of regs codec h microphone i nanos limit s l part m None = finished false regs h i (work_of (stopped_of (engine_of regs h i s)) l part m)
+formatted_of regs codec h microphone i nanos limit s l part m (Some rate) =
     opened_of regs codec i rate nanos limit s l part m (open_stream_of h microphone i)
 
 -- The turn of stream i: format, opening, position update, time, transfers. `limit` is what its queue may hold: 2,048 bytes for a lone device.

@@ -1,8 +1,10 @@
 -- Takes as files (T-02): written into lent space, and read back out of exactly the bytes that a write makes.
-use Rattle.std.specs.Prelude.{ℕ, ◌%◌, Bool, true, false, cond, ◌&&◌, List, [], ◌∷◌, ◌++◌, eqb, leb, ltb, length, take, drop}
+use Rattle.std.specs.Prelude.{ℕ, ◌%◌, Bool, true, false, cond, ◌&&◌, List, [], ◌∷◌, ◌++◌, Result, Ok, Err, eqb, leb, ltb, length, take, drop}
 use Rattle.word.specs.Place.{word_at}
 use Rattle.format.specs.Format.{rates, among}
-use Rattle.wav.specs.declared.Filled.{Filled}
+use Rattle.refusal.specs.declared.Refusal.{Refusal}
+use Rattle.refusal.specs.Refusals.{number_of}
+use Rattle.wav.specs.declared.Written.{Written}
 use Rattle.wav.specs.Header.{header_size, frame_size, header_of}
 
 -- bytes of frames that a file holds at most: the largest whole frames with which the RIFF size fits 32 bits
@@ -37,7 +39,13 @@ is_file file =
     storable (rate_in file) (length (frames_in file))
     && same (take header_size file) (header_of (rate_in file) (length (frames_in file)))
 
--- what a call answers, and the lent space after it
+-- what a call answers: its number, the frames a second of the take, and how many bytes it wrote
+pub record Filled : Type 0 where
+  pub number : ℕ
+  pub rate : ℕ
+  pub count : ℕ
+
+-- .. and the lent space after it
 pub record Fill : Type 0 where
   pub filled : Filled
   pub into : List ℕ
@@ -47,6 +55,11 @@ fill_out filled into = record { filled = filled; into = into }
 
 abbrev pub filled_of : ℕ → ℕ → ℕ → Filled
 filled_of number rate count = record { number = number; rate = rate; count = count }
+
+-- a refusal wrote none and has no rate
+abbrev pub filled_by : Result Written Refusal → Filled
+filled_by (Ok written) = filled_of 0 written.rate written.count
+filled_by (Err refusal) = filled_of (number_of refusal) 0 0
 
 -- a refusal leaves the lent space as it was
 abbrev pub refused_of : ℕ → List ℕ → Fill

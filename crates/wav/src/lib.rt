@@ -1,15 +1,16 @@
 // Takes as RIFF WAVE (T-02): pulled frames, 16-bit stereo, written as a file into lent space, and read back out of exactly the bytes that a write makes.
 #![tactic(auto)]
 
-ghost use Rattle.std.specs.Prelude.{◌≡◌, ◌≤◌, length, take};
+ghost use Rattle.std.specs.Prelude.{◌≡◌, ◌≤◌};
 ghost use Rattle.wav.specs.Header.{header_of};
-ghost use Rattle.wav.specs.Files.{size_limit, storable, same, is_file, filled_of, fill_out, write_of, read_of};
+ghost use Rattle.wav.specs.Files.{size_limit, storable, is_file, filled_by, fill_out, write_of, read_of};
 
-// What a call answers beside the lent space: how many bytes it wrote, its number, and the frames a second of the take. A refusal wrote none and has no rate.
-#[derive(Clone, Copy)]
-pub struct Filled {
+use refusal::Refusal;
+
+// How many bytes a call wrote into the lent space, and the frames a second of the take.
+#[derive(Clone, Copy, PartialEq, Eq, Debug)]
+pub struct Written {
     pub count: u64,
-    pub number: u32,
     pub rate: u32,
 }
 
@@ -43,26 +44,11 @@ fn header(rate: u32, size: u32) -> [u8; 44]
 {
     let mut header =
         *b"RIFF\0\0\0\0WAVEfmt \x10\0\0\0\x01\0\x02\0\0\0\0\0\0\0\0\0\x04\0\x10\0data\0\0\0\0";
-    word::put32(&mut header, RIFF_SIZE, 36 + size);
-    word::put32(&mut header, RATE, rate);
-    word::put32(&mut header, BYTE_RATE, rate * FRAME_BYTES);
-    word::put32(&mut header, DATA_SIZE, size);
+    word::put::<u32>(&mut header, RIFF_SIZE, 36 + size);
+    word::put::<u32>(&mut header, RATE, rate);
+    word::put::<u32>(&mut header, BYTE_RATE, rate * FRAME_BYTES);
+    word::put::<u32>(&mut header, DATA_SIZE, size);
     header
-}
-
-// Whether `bytes` begin with `first`.
-fn begins_with(bytes: &[u8], first: &[u8]) -> bool
-    requires { length first.now ≤ length bytes.now }
-    ensures { result ≡ same (take (length first.now) bytes.now) first.now }
-{
-    let mut at = 0;
-    while at < first.len() {
-        if bytes[at] != first[at] {
-            return false;
-        }
-        at += 1;
-    }
-    true
 }
 
 // Whether a file is one that `write` makes: its header is the one of its rate and of the frames behind it.
@@ -72,62 +58,50 @@ fn is_file(file: &[u8]) -> bool
     if file.len() < HEADER_BYTES {
         return false;
     }
-    let rate = word::get32(file, RATE);
+    let rate = word::get::<u32>(file, RATE);
     let size = file.len() - HEADER_BYTES;
     if !is_storable(rate, size) {
         return false;
     }
     let written = header(rate, size as u32);
-    begins_with(file, &written)
-}
-
-fn refused(number: u32) -> Filled
-    ensures { result ≡ filled_of number 0 0 }
-{
-    Filled {
-        number: number,
-        rate: 0,
-        count: 0,
-    }
+    file.starts_with(&written)
 }
 
 // Frames as a file from the start of the lent space on; the rest stays.
-pub fn write(rate: u32, frames: &[u8], into: &mut [u8]) -> Filled
-    ensures { fill_out result into.new ≡ write_of rate frames.now into.old }
+pub fn write(rate: u32, frames: &[u8], into: &mut [u8]) -> Result<Written, Refusal>
+    ensures { fill_out (filled_by result) into.new ≡ write_of rate frames.now into.old }
 {
     if !is_storable(rate, frames.len()) {
-        return refused(13);
+        return Err(Refusal::Wav);
     }
     let count = HEADER_BYTES + frames.len();
     if into.len() < count {
-        return refused(14);
+        return Err(Refusal::ShortSpace);
     }
     let first = header(rate, frames.len() as u32);
     word::copy(&first, into);
     word::copy(frames, &mut into[HEADER_BYTES..count]);
-    Filled {
-        number: 0,
-        rate: rate,
+    Ok(Written {
         count: count as u64,
-    }
+        rate,
+    })
 }
 
 // The frames of a file from the start of the lent space on; the rest stays.
-pub fn read(file: &[u8], into: &mut [u8]) -> Filled
-    ensures { fill_out result into.new ≡ read_of file.now into.old }
+pub fn read(file: &[u8], into: &mut [u8]) -> Result<Written, Refusal>
+    ensures { fill_out (filled_by result) into.new ≡ read_of file.now into.old }
 {
     if !is_file(file) {
-        return refused(13);
+        return Err(Refusal::Wav);
     }
     let size = file.len() - HEADER_BYTES;
     if into.len() < size {
-        return refused(14);
+        return Err(Refusal::ShortSpace);
     }
-    let rate = word::get32(file, RATE);
+    let rate = word::get::<u32>(file, RATE);
     word::copy(&file[HEADER_BYTES..], into);
-    Filled {
-        number: 0,
-        rate: rate,
+    Ok(Written {
         count: size as u64,
-    }
+        rate,
+    })
 }

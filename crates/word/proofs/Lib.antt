@@ -3,9 +3,10 @@
 pub mod Choices
 pub mod Lists
 pub mod Value
-pub mod Put
+pub mod Puts
 pub mod Copies
 pub mod Place
 pub mod Shifts
 pub mod Parts
 pub mod Each
+pub mod Endian

@@ -9,7 +9,7 @@ use lib.ListN.{length}
 use lib.Seq.{drop-drop}
 use Rattle.word.specs.Place.{put_at}
 use Rattle.word.specs.Parts.{part_of, with_part}
-use Rattle.word.proofs.Put.{length-put, put-there, put-part-elsewhere}
+use Rattle.word.proofs.Puts.{length-put, put-there, put-part-elsewhere}
 
 -- a part ends where the next begins, or before
 before : (size i j : ℕ) → i < j → size * i + size ≤ size * j

@@ -11,7 +11,7 @@ use Rattle.word.specs.Value.{value_of, bytes_of, Bytes}
 use Rattle.word.specs.Place.{put_at, word_at, store_at}
 use Rattle.word.proofs.Lists.{length_part, bytes_take, bytes_drop}
 use Rattle.word.proofs.Value.{length-bytes, bytes-bound, value-bound, value-bytes, bytes-value, value-append, bytes-split}
-use Rattle.word.proofs.Put as put
+use Rattle.word.proofs.Puts as put
 
 -- of a word within a list
 module _ (n at : ℕ) (l : List ℕ) (fits : at + n ≤ length l) where

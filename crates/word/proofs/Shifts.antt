@@ -1,16 +1,14 @@
--- Laws of bytes moved down to the front of a list, and the turn of the loop that moves them. Assumes nothing.
-use Prim.Native.Nat.{ℕ, suc, ◌+◌, ◌<◌, ◌≤◌}
+-- Laws of bytes moved down to the front of a list. Assumes nothing.
+use Prim.Native.Nat.{ℕ, ◌+◌, ◌≤◌}
 use mathlib.Core.Path.{◌≡◌, sym, ap, ◌∙◌}
-use mathlib.Core.List.{List, [], ◌∷◌, ◌++◌, append_assoc}
+use mathlib.Core.List.{List, ◌++◌}
 use native.Mathlib.Omega.{arith}
-use native.Mathlib.Numerals.{add-one}
-use native.Mathlib.Nat.{add_comm, zero-add}
-use lib.ListN.{length, take, drop, get_or, set, length-drop, take-append-drop}
-use lib.Seq.{drop-cons, take-suc, set_at, get_or-drop, get_or-append-add}
+use native.Mathlib.Nat.{zero-add}
+use lib.ListN.{length, take, drop, take-append-drop}
 use Rattle.word.specs.Place.{put_at}
 use Rattle.word.specs.Shift.{shift_of}
 use Rattle.word.proofs.Lists.{length_part}
-use Rattle.word.proofs.Put.{length-put, put-there, put-after}
+use Rattle.word.proofs.Puts.{length-put, put-there, put-after}
 
 -- from the front on, nothing moves
 pub shift_none : (count : ℕ) (l : List ℕ) → shift_of 0 count l ≡ l
@@ -44,26 +42,3 @@ module _ (from count : ℕ) (l : List ℕ) (fits : from + count ≤ length l) wh
   -- what stands past the moved bytes stays
   pub shift-after : (i : ℕ) → count ≤ i → drop i (shift_of from count l) ≡ drop i l
   shift-after i h = ap (drop i) shift-put ∙ put-after 0 moved l room i (omega (arith, length_moved))
-
--- what is read next is not yet overwritten, and the store takes the shift one byte further
-pub shift-turn : (l₀ l : List ℕ) (from i : ℕ) → l ≡ shift_of from i l₀ → from + i < length l₀
-    → set l i (get_or l (from + i) 0) ≡ shift_of from (i + 1) l₀
-unfolding shift_of
-shift-turn l₀ l from i e h =
-    let s : List ℕ = drop from l₀ in
-    let hs : i < length (drop from l₀) = omega (arith, length-drop from l₀) in
-    let front : length (take i (drop from l₀)) ≡ i = length_part i from l₀ (omega arith) in
-    let place : length (take i (drop from l₀)) + from ≡ from + i = omega arith in
-    let next : get_or (shift_of from i l₀) (from + i) 0 ≡ get_or s i 0
-    = ap (λ (k : ℕ). get_or (shift_of from i l₀) k 0) (sym place)
-    ∙ get_or-append-add (take i s) (drop i l₀) from 0
-    ∙ get_or-drop i l₀ from 0
-    ∙ ap (λ (k : ℕ). get_or l₀ k 0) (add_comm i from)
-    ∙ sym (get_or-drop from l₀ i 0) in
-    ap (λ (x : List ℕ). set x i (get_or x (from + i) 0)) e
-    ∙ ap (λ (v : ℕ). set (shift_of from i l₀) i v) next
-    ∙ ap (λ (x : List ℕ). set (take i s ++ x) i (get_or s i 0)) (drop-cons l₀ i 0 (omega arith))
-    ∙ set_at (take i s) (get_or l₀ i 0) (drop (suc i) l₀) (get_or s i 0) i front
-    ∙ sym (append_assoc (take i s) (get_or s i 0 ∷ []) (drop (suc i) l₀))
-    ∙ ap (λ (x : List ℕ). x ++ drop (suc i) l₀) (sym (take-suc s i 0 hs))
-    ∙ ap (λ (k : ℕ). take k s ++ drop k l₀) (sym (add-one i))

@@ -1,116 +1,113 @@
-// Little-endian words in lent bytes, bytes moved down, and small helpers on numbers. Knows nothing of the device.
+// Little-endian words in lent bytes, and bytes copied and moved down. Knows nothing of the device.
 //
-// A word of 4 bytes is made of two of 2, and one of 8 of two of 4, so that one law over the width proves each; the compiler makes
-// one load or one store of it.
+// The compiler makes one load or one store of each word.
 #![tactic(auto)]
 
-ghost use Rattle.std.specs.Prelude.{◌≡◌, ◌+◌, ◌-◌, ◌*◌, ◌≤◌, ◌<◌, ◌++◌, min, max, length, take, drop};
-ghost use Rattle.word.specs.Place.{word_at, store_at};
+ghost use Rattle.std.specs.Prelude.{◌≡◌, ℕ, ◌+◌, ◌-◌, ◌≤◌, ◌<◌, ◌++◌, length, take, drop};
+ghost use Rattle.word.specs.Place.{put_at, word_at, store_at};
 ghost use Rattle.word.specs.Shift.{shift_of};
 
-// Words out of bytes. `&[u8]` also lends an array, be it a field of a struct or behind a reference.
+// A number of a fixed width, whose bytes stand in a slice with the lowest first.
+pub trait Word: Sized {
+    // How many bytes it has, and the number that it is.
+    ghost width: { ℕ };
 
-fn join16(low: u8, high: u8) -> u16
-    ensures { result ≡ low + 256 * high }
-{
-    (low as u16) + 256 * (high as u16)
+    ghost number: { Self → ℕ };
+
+    fn get_from(s: &[u8], at: usize) -> Self
+        requires { at + width ≤ length s.now }
+        ensures { number result ≡ word_at width at s.now };
+
+    fn put_into(self, s: &mut [u8], at: usize)
+        requires { at + width ≤ length s.old }
+        ensures { s.new ≡ store_at width at (number self) s.old };
 }
 
-fn join32(low: u16, high: u16) -> u32
-    ensures { result ≡ low + 65536 * high }
-{
-    (low as u32) + 65536 * (high as u32)
+impl Word for u16 {
+    ghost width = { 2 };
+
+    ghost number = { λ x. x };
+
+    fn get_from(s: &[u8], at: usize) -> u16 {
+        u16::from_le_bytes(bytes_at(s, at))
+    }
+
+    fn put_into(self, s: &mut [u8], at: usize) {
+        put_bytes::<2>(s, at, self.to_le_bytes())
+    }
 }
 
-fn join64(low: u32, high: u32) -> u64
-    ensures { result ≡ low + 4294967296 * high }
-{
-    (low as u64) + 4294967296 * (high as u64)
+impl Word for u32 {
+    ghost width = { 4 };
+
+    ghost number = { λ x. x };
+
+    fn get_from(s: &[u8], at: usize) -> u32 {
+        u32::from_le_bytes(bytes_at(s, at))
+    }
+
+    fn put_into(self, s: &mut [u8], at: usize) {
+        put_bytes::<4>(s, at, self.to_le_bytes())
+    }
 }
 
-pub fn get16(s: &[u8], at: usize) -> u16
-    requires { at + 2 ≤ length s.now }
-    ensures { result ≡ word_at 2 at s.now }
-{
-    let low = s[at];
-    let high = s[at + 1];
-    join16(low, high)
+impl Word for u64 {
+    ghost width = { 8 };
+
+    ghost number = { λ x. x };
+
+    fn get_from(s: &[u8], at: usize) -> u64 {
+        u64::from_le_bytes(bytes_at(s, at))
+    }
+
+    fn put_into(self, s: &mut [u8], at: usize) {
+        put_bytes::<8>(s, at, self.to_le_bytes())
+    }
 }
 
-pub fn get32(s: &[u8], at: usize) -> u32
-    requires { at + 4 ≤ length s.now }
-    ensures { result ≡ word_at 4 at s.now }
+// The word at `at`. `&[u8]` also lends an array, be it a field of a struct or behind a reference.
+pub fn get<W: Word>(s: &[u8], at: usize) -> W
+    requires { at + W.width ≤ length s.now }
+    ensures { W.number result ≡ word_at W.width at s.now }
 {
-    let low = get16(s, at);
-    let high = get16(s, at + 2);
-    join32(low, high)
+    W::get_from(s, at)
 }
 
-pub fn get64(s: &[u8], at: usize) -> u64
-    requires { at + 8 ≤ length s.now }
-    ensures { result ≡ word_at 8 at s.now }
+// The word to `at`. The contract gives the whole list at exit, so no byte beside the word changes.
+pub fn put<W: Word + Drop>(s: &mut [u8], at: usize, v: W)
+    requires { at + W.width ≤ length s.old }
+    ensures { s.new ≡ store_at W.width at (W.number v) s.old }
 {
-    let low = get32(s, at);
-    let high = get32(s, at + 4);
-    join64(low, high)
+    v.put_into(s, at)
 }
 
-// Words into bytes. The contracts give the whole list at exit, so no byte beside the word changes.
-
-pub fn put16(s: &mut [u8], at: usize, v: u16)
-    requires { at + 2 ≤ length s.old }
-    ensures { s.new ≡ store_at 2 at v s.old }
+// The N bytes at `at`.
+fn bytes_at<const N: usize>(s: &[u8], at: usize) -> [u8; N]
+    requires { at + N ≤ length s.now }
+    ensures { result ≡ take N (drop at s.now) }
 {
-    s[at] = (v % 256) as u8;
-    s[at + 1] = (v / 256 % 256) as u8;
+    let mut bytes = [0; N];
+    bytes.copy_from_slice(&s[at..at + N]);
+    bytes
 }
 
-pub fn put32(s: &mut [u8], at: usize, v: u32)
-    requires { at + 4 ≤ length s.old }
-    ensures { s.new ≡ store_at 4 at v s.old }
+// The bytes to `at`, over as many.
+#[tactic(auto, unfolding(crate::specs::Place::put_at))]
+fn put_bytes<const N: usize>(s: &mut [u8], at: usize, bytes: [u8; N])
+    requires { at + N ≤ length s.old }
+    ensures { s.new ≡ put_at at bytes.entry s.old }
 {
-    put16(s, at, (v % 65536) as u16);
-    put16(s, at + 2, (v / 65536) as u16);
-}
-
-pub fn put64(s: &mut [u8], at: usize, v: u64)
-    requires { at + 8 ≤ length s.old }
-    ensures { s.new ≡ store_at 8 at v s.old }
-{
-    put32(s, at, (v % 4294967296) as u32);
-    put32(s, at + 4, (v / 4294967296) as u32);
-}
-
-// One of the device's two 256-byte files: its registers, its configuration space. A field of a struct is lent as `&mut File` in
-// place, and cannot be as `&mut [u8]`; hence the two functions below.
-pub type File = [u8; 256];
-
-pub fn put16_in(file: &mut File, at: usize, v: u16)
-    requires { at + 2 ≤ 256 }
-    ensures { file.new ≡ store_at 2 at v file.old }
-{
-    put16(file, at, v)
-}
-
-pub fn put32_in(file: &mut File, at: usize, v: u32)
-    requires { at + 4 ≤ 256 }
-    ensures { file.new ≡ store_at 4 at v file.old }
-{
-    put32(file, at, v)
+    s[at..at + N].copy_from_slice(&bytes);
 }
 
 // Moves the `count` bytes from `from` on to the front, in one pass. With from = 0 nothing moves.
+#[tactic(auto, unfolding(crate::specs::Shift::shift_of))]
 pub fn shift(s: &mut [u8], from: usize, count: usize)
     requires { from + count ≤ length s.old }
     ensures { s.new ≡ shift_of from count s.old }
 {
-    if from == 0 {
-        return;
-    }
-    let mut i = 0;
-    while i < count {
-        s[i] = s[from + i];
-        i += 1;
+    if from > 0 {
+        s.copy_within(from..from + count, 0);
     }
 }
 
@@ -119,34 +116,5 @@ pub fn copy(from: &[u8], into: &mut [u8])
     requires { length from.now ≤ length into.old }
     ensures { into.new ≡ take (length from.now) from.now ++ drop (length from.now) into.old }
 {
-    let front = &mut into[..from.len()];
-    front.copy_from_slice(from);
-}
-
-// Numbers.
-
-pub fn least(a: u64, b: u64) -> u64
-    ensures { result ≡ min a b }
-{
-    if a < b { a } else { b }
-}
-
-pub fn greatest(a: u64, b: u64) -> u64
-    ensures { result ≡ max a b }
-{
-    if a < b { b } else { a }
-}
-
-// a less b, and 0 where b is larger: the difference of naturals.
-pub fn difference(a: u64, b: u64) -> u64
-    ensures { result ≡ a - b }
-{
-    if a < b { 0 } else { a - b }
-}
-
-// A byte as a number to reckon with; its bound is then known to the caller's proof.
-pub fn wide(x: u8) -> u32
-    ensures { (result ≡ x) × (result < 256) }
-{
-    x as u32
+    into[..from.len()].copy_from_slice(from);
 }

@@ -14,7 +14,7 @@ load_clock-c-requires c =
 
 pub returns : goal.returns
 returns c =
-    let put = c.put32 in
+    let put = c.put in
     let shown = c.shown-shown in
     let back = c.replace_clock in
     let next = c.advance-next in

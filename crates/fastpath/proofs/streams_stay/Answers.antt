@@ -1,60 +1,20 @@
--- `streams_stay` meets its contract. The invariant: the streams from `index` on decide. Assumes nothing.
-use Prim.Native.Nat.{ℕ, ◌+◌, ◌-◌}
-use mathlib.Core.Path.{◌≡◌, refl, sym, ◌∙◌}
-use native.Mathlib.Omega.{arith}
-use borrow.Author.Tests.{not-true, not-false}
+-- `streams_stay` meets its contract: the closure compares one stream's control bytes.
+use Prim.Native.Nat.{ℕ, ◌+◌, ◌*◌}
+use mathlib.Core.Path.{refl, ◌∙◌}
+use borrow.Author.Rules.{rules}
+use Rattle.std.proofs.Common.{tests}
+use Rattle.std.proofs.lemmas.Iterator.{YieldsList-from_range}
+use Rattle.std.proofs.lemmas.Iterator.Search.{all_from_yields_List}
 use Rattle.stream.specs.Box.{streams}
-use Rattle.fastpath.specs.Quick.{stay_from}
-use Rattle.fastpath.proofs.Scan.{stay-more, stay-stop, stay-end}
+use Rattle.registers.specs.Places.{ctl, byte_at}
+use Rattle.fastpath.specs.Quick.{stays_of}
+use Rattle.fastpath.proofs.Scan.{stay_list}
 use Rattle.fastpath.proofs.streams_stay.Goals as goal
-
-pub loop-index-init : goal.loop-index-init
-loop-index-init c =
-    (streams, omega arith, refl)
-
-pub overflow_mul-at : goal.overflow_mul-at
-overflow_mul-at c =
-    omega arith
-
-pub overflow_add-at : goal.overflow_add-at
-overflow_add-at c =
-    omega arith
-
-pub bounds-old-at : goal.bounds-old-at
-bounds-old-at c =
-    omega arith
-
-pub bounds-regs-at : goal.bounds-regs-at
-bounds-regs-at c =
-    omega arith
-
-pub stays-requires : goal.stays-requires
-stays-requires c =
-    omega arith
-
-pub returns-then-not-stays : goal.returns-then-not-stays
-returns-then-not-stays c =
-    let l = c.loop-index in
-    let a = c.args in
-    sym (stay-stop a.old.now a.regs.now streams l.index l.invariant.0 l.invariant.1 (omega arith) (sym c.stays.ensures ∙ c.if-not-stays.true)) ∙ l.invariant.2
-
-pub overflow_add-index : goal.overflow_add-index
-overflow_add-index c =
-    omega arith
-
-pub loop-index-smaller : goal.loop-index-smaller
-loop-index-smaller c =
-    omega arith
-
-pub loop-index-preserved : goal.loop-index-preserved
-loop-index-preserved c =
-    let l = c.loop-index in
-    let a = c.args in
-    let k = stay-more a.old.now a.regs.now streams l.index l.invariant.0 l.invariant.1 (omega arith) (sym c.stays.ensures ∙ c.if-not-stays.false) in
-    (k.0, k.1, sym k.2 ∙ l.invariant.2)
 
 pub returns : goal.returns
 returns c =
-    let l = c.loop-index in
-    let a = c.args in
-    sym (stay-end a.old.now a.regs.now streams l.index l.invariant.0 l.invariant.1 (omega arith)) ∙ l.invariant.2
+    let old = c.args.old.now in
+    let regs = c.args.regs.now in
+    all_from_yields_List (λ (k : ℕ). stays_of (byte_at old (ctl k)) (byte_at regs (ctl k))) _ _ c.all.result c.all.ensures.ran (YieldsList-from_range 0 streams streams refl refl)
+    (λ x r q called. (search (rules, tests), search (rules, tests)))
+    ∙ stay_list old regs streams 0

@@ -3,19 +3,20 @@ use mathlib.Core.Path.{sym, ◌∙◌}
 use borrow.Author.Rules.{rules}
 use borrow.Author.Tests.{not-true, not-false}
 use Rattle.record.proofs.Theorems.{record-sized}
+use Rattle.refusal.specs.Refusals.{outcome_of}
 use Rattle.fastpath.specs.Quick.{tried}
-use Rattle.fastpath.proofs.Outcomes.{write-refused, write-reaching, write-few, write-left, write_done}
+use Rattle.fastpath.proofs.Outcomes.{refused, passed, write-refused, write-reaching, write-few, write-left, write_done}
 use Rattle.fastpath.proofs.write.Goals as goal
 
-pub returns-then-check-ne0 : goal.returns-then-check-ne0
-returns-then-check-ne0 c =
+pub returns-then-is_err : goal.returns-then-is_err
+returns-then-is_err c =
     let a = c.args in
-    write-refused a.device.now a.lists.now a.queues.now a.memory.now a.host c.check.result c.check.ensures a.offset a.bytes.now c.if-check-ne0.true c.left_alone.result c.left_alone.ensures
+    write-refused a.device.now a.lists.now a.queues.now a.memory.now a.host (outcome_of c.check.result) c.check.ensures a.offset a.bytes.now (refused c.check.result (search rules))
 
 pub returns-then-not-is_plain_write : goal.returns-then-not-is_plain_write
 returns-then-not-is_plain_write c =
     let a = c.args in
-    write-reaching a.device.now a.lists.now a.queues.now a.memory.now a.host c.check.result c.check.ensures a.offset a.bytes.now c.if-check-ne0.false (sym c.is_plain_write.ensures ∙ c.if-not-is_plain_write.true) c.left_alone-then-not-is_plain_write.result c.left_alone-then-not-is_plain_write.ensures
+    write-reaching a.device.now a.lists.now a.queues.now a.memory.now a.host (outcome_of c.check.result) c.check.ensures a.offset a.bytes.now (passed c.check.result (search rules)) (sym c.is_plain_write.ensures ∙ c.if-not-is_plain_write.true)
 
 pub written-requires : goal.written-requires
 written-requires c =
@@ -25,8 +26,8 @@ pub returns-then-not-is_quiet : goal.returns-then-not-is_quiet
 returns-then-not-is_quiet c =
     let old = c.load_block-old in
     let a = c.args in
-    write-left a.device.now a.lists.now a.queues.now a.memory.now a.host c.check.result c.check.ensures a.offset a.bytes.now c.if-check-ne0.false (sym c.is_plain_write.ensures ∙ c.if-not-is_plain_write.false)
-    old.result c.written.new.regs old.ensures c.written.ensures (sym c.is_quiet.ensures ∙ c.if-not-is_quiet.true) c.left_alone-then-not-is_quiet.result c.left_alone-then-not-is_quiet.ensures
+    write-left a.device.now a.lists.now a.queues.now a.memory.now a.host (outcome_of c.check.result) c.check.ensures a.offset a.bytes.now (passed c.check.result (search rules)) (sym c.is_plain_write.ensures ∙ c.if-not-is_plain_write.false)
+    old.result c.written.new.regs old.ensures c.written.ensures (sym c.is_quiet.ensures ∙ c.if-not-is_quiet.true)
 
 pub conclude-requires : goal.conclude-requires
 conclude-requires c =
@@ -35,7 +36,7 @@ conclude-requires c =
     let a = c.args in (
       record-sized _ put.ensures.device,
       put.ensures.device,
-      write-few a.device.now a.lists.now a.queues.now a.memory.now a.host c.check.result c.check.ensures a.offset a.bytes.now c.if-check-ne0.false (sym c.is_plain_write.ensures ∙ c.if-not-is_plain_write.false)
+      write-few a.device.now a.lists.now a.queues.now a.memory.now a.host (outcome_of c.check.result) c.check.ensures a.offset a.bytes.now (passed c.check.result (search rules)) (sym c.is_plain_write.ensures ∙ c.if-not-is_plain_write.false)
           old.result c.written.new.regs old.ensures c.written.ensures put.new.into put.ensures,
     )
 
@@ -45,6 +46,6 @@ returns c =
     let put = c.replace_registers in
     let old = c.load_block-old in
     let a = c.args in
-    write_done a.device.now a.lists.now a.queues.now a.memory.now a.host c.check.result c.check.ensures a.offset a.bytes.now c.if-check-ne0.false (sym c.is_plain_write.ensures ∙ c.if-not-is_plain_write.false)
+    write_done a.device.now a.lists.now a.queues.now a.memory.now a.host (outcome_of c.check.result) c.check.ensures a.offset a.bytes.now (passed c.check.result (search rules)) (sym c.is_plain_write.ensures ∙ c.if-not-is_plain_write.false)
     old.result c.written.new.regs old.ensures c.written.ensures put.new.into put.ensures (sym c.is_quiet.ensures ∙ c.if-not-is_quiet.false)
     (tried z.result z.new.device z.new.memory) z.ensures

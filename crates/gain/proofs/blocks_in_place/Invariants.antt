@@ -6,9 +6,14 @@ use Rattle.gain.specs.Fast.{AmplifiedTo, SameFrom}
 use Rattle.gain.proofs.blocks_in_place.Given as goal
 
 abbrev pub invariant-loop-i : goal.invariant-loop-i
-invariant-loop-i l =
-    (length l.pcm ≡ length l.initial.pcm) × (l.i ≤ l.whole) × (l.i % 4 ≡ 0) × AmplifiedTo l.i l.left l.right l.initial.pcm l.pcm × SameFrom l.i l.initial.pcm l.pcm × (length l.lefts ≡ 64) × (length l.rights ≡ 64) × (l.whole % 4 ≡ 0) × (l.whole ≤ length l.initial.pcm)
+invariant-loop-i l = record {
+  inside : l.i ≤ l.whole;
+  aligned : l.i % 4 ≡ 0;
+  lefts : length l.lefts ≡ 64;
+  rights : length l.rights ≡ 64;
+  done : AmplifiedTo l.i l.left l.right l.initial.pcm l.pcm;
+  rest : SameFrom l.i l.initial.pcm l.pcm;
+}
 
 abbrev pub decreases-loop-i : goal.decreases-loop-i
-decreases-loop-i l =
-    l.whole - l.i
+decreases-loop-i l = l.whole - l.i

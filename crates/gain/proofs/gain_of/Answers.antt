@@ -4,10 +4,6 @@ use Rattle.gain.specs.declared.Gain.TheVariants.{Factor}
 use Rattle.gain.proofs.Laws.{gain-silence, gain-unity, gain-factor}
 use Rattle.gain.proofs.gain_of.Goals as goal
 
-pub factor_of-requires : goal.factor_of-requires
-factor_of-requires c =
-    c.if-byte-ge128.false
-
 pub returns-then-byte-ge128 : goal.returns-then-byte-ge128
 returns-then-byte-ge128 c =
     sym (gain-silence c.args.byte c.if-byte-ge128.true)

@@ -25,10 +25,6 @@ unfolding of_bits
 round_half_up-r-requires-then-product-2 c =
     subst (λ (x : Float). T (roundable x)) (sym c.limit-then-product-2.ensures) (limited-is _ (below c.args.product c.if-product-2.true)).0
 
-pub overflow_sub-result : goal.overflow_sub-result
-overflow_sub-result c =
-    negated_fits c.round_half_up-r-then-product-2.result c.if-r-lt32768-2.true
-
 pub returns-then-r-lt32768 : goal.returns-then-r-lt32768
 unfolding of_bits
 returns-then-r-lt32768 c =

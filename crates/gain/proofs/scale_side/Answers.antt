@@ -1,33 +1,34 @@
 -- `scale_side` meets its contract, by the three cases of a gain. Assumes nothing.
 use mathlib.Core.Path.{sym, ◌∙◌, subst}
-use lib.Ieee.{of_bits}
+use mathlib.Core.List.{◌++◌}
+use lib.ListN.{drop}
+use borrow.Author.Rules.{rules}
+use lib.Dec.{T}
+use Rattle.std.specs.Float.Ieee.Positive.{positive}
 use Rattle.gain.specs.declared.Gain.{Gain}
+use Rattle.gain.specs.declared.Gain.TheVariants.{Factor}
 use Rattle.gain.specs.Fast.{ScaledWords}
 use Rattle.gain.proofs.Laws.{unity-word}
+use Rattle.gain.proofs.Passes.{front-scaled}
 use Rattle.gain.proofs.Scaling.{in-range}
 use Rattle.gain.proofs.scale_side.Goals as goal
 
-pub scale_words-requires : goal.scale_words-requires
-unfolding of_bits
-scale_words-requires c =
-    record {
-      n_in_bounds = c.requires;
-      factor_is_positive = in-range c.in-Factor.factor (sym c.is_blockwise.ensures ∙ c.if-is_blockwise.true);
-    }
+pub scale_each-requires : goal.scale_each-requires
+scale_each-requires c =
+    let p : T (positive c.in-Factor.factor) = in-range c.in-Factor.factor (sym c.is_blockwise.ensures ∙ c.if-is_blockwise.true) in search rules
 
 pub returns-in-Unity : goal.returns-in-Unity
 returns-in-Unity c =
     let s = c.args in
     subst (λ (g : Gain). ScaledWords s.n g s.words.now s.words.now) (sym c.in-Unity.is) (λ k _. sym (unity-word _ (c.type_inv.words k).fits))
 
-pub returns-then-is_blockwise : goal.returns-then-is_blockwise
-returns-then-is_blockwise c =
+pub returns-in-Factor : goal.returns-in-Factor
+returns-in-Factor c =
     let s = c.args in
-    let k = c.scale_words in
-    subst (λ (g : Gain). ScaledWords s.n g s.words.now k.new.words) (sym c.in-Factor.is) k.ensures
+    subst (λ (g : Gain). ScaledWords s.n g s.words.now (c.scale_each.new.words ++ drop s.n s.words.now)) (sym c.in-Factor.is)
+    (front-scaled s.n (Factor c.in-Factor.factor) s.words.now c.scale_each.new.words c.requires c.scale_each.auto.words (λ k h. let e = c.scale_each.ensures k h in search rules))
 
-pub returns-else-is_blockwise : goal.returns-else-is_blockwise
-returns-else-is_blockwise c =
+pub returns-in-Silence : goal.returns-in-Silence
+returns-in-Silence c =
     let s = c.args in
-    let k = c.scale_plain-else-is_blockwise in
-    subst (λ (g : Gain). ScaledWords s.n g s.words.now k.new.words) (sym c.in-Factor.is) k.ensures
+    front-scaled s.n s.gain s.words.now c.scale_each-in-Silence.new.words c.requires c.scale_each-in-Silence.auto.words (λ k h. let e = c.scale_each-in-Silence.ensures k h in search rules)

@@ -1,6 +1,6 @@
 -- `bar_write` meets its contract: the registers' write, or none. Assumes nothing.
-use borrow.Author.Rules.{rules}
-use Rattle.device.specs.Machines.{machine, done_of}
+use mathlib.Core.Path.{◌∙◌}
+use Rattle.device.specs.Machines.{Machine, machine, done_of}
 use Rattle.hda.proofs.Changing.{bar-registers, bar-dropped}
 use Rattle.hda.proofs.bar_write.Goals as goal
 
@@ -13,6 +13,7 @@ returns-then-bar-eq0 c =
 
 pub returns : goal.returns
 returns c =
-    let k = c.check-number in
     let a = c.args in
-    bar-dropped a.bar a.offset a.bytes.now (machine a.hda a.host a.lists.now a.queues.now a.memory.now) k.result c.answer.result c.if-bar-eq0.false k.ensures c.answer.ensures
+    let x : Machine = machine a.hda a.host a.lists.now a.queues.now a.memory.now in
+    bar-dropped a.bar a.offset a.bytes.now x c.outcome_number-number.result c.answer.result c.if-bar-eq0.false
+    (c.outcome_number-number.ensures ∙ c.check.ensures) c.answer.ensures

@@ -1,28 +1,28 @@
--- `pin_presence_changed` meets its contract: behind the check, the step of a pin change. Assumes nothing.
-use borrow.Author.Rules.{rules}
-use Rattle.device.specs.Machines.{machine, done_of}
+-- Behind the check, the call's step.
+use Rattle.std.proofs.Common.{refl}
+use Rattle.device.specs.Machines.{Machine, machine, done_of}
+use Rattle.write.proofs.Checked.{turned_away, called, few}
 use Rattle.hda.specs.Calls.{pin_step, pin_of}
-use Rattle.write.proofs.Checked.{refused, called, few}
 use Rattle.hda.proofs.pin_presence_changed.Goals as goal
 
-pub returns-then-number-ne0 : goal.returns-then-number-ne0
+pub returns-in-Err : goal.returns-in-Err
 unfolding pin_of
-returns-then-number-ne0 c =
-    let k = c.check-number in
+returns-in-Err c =
     let a = c.args in
-    refused (pin_step a.node) (machine a.hda a.host a.lists.now a.queues.now a.memory.now) k.result k.ensures c.answer.result c.if-number-ne0.true c.answer.ensures
+    let x : Machine = machine a.hda a.host a.lists.now a.queues.now a.memory.now in
+    turned_away (pin_step a.node) x c.in-Err.refusal c.number.result c.answer.result c.number.ensures c.in-Err.ensures c.answer.ensures
 
 pub pin_step-requires : goal.pin_step-requires
 pin_step-requires c =
-    let k = c.check-number in
     let a = c.args in
-    few (machine a.hda a.host a.lists.now a.queues.now a.memory.now) k.result k.ensures c.if-number-ne0.false
+    let x : Machine = machine a.hda a.host a.lists.now a.queues.now a.memory.now in
+    few x 0 c.in_default.ensures refl
 
 pub returns : goal.returns
 unfolding pin_of
 returns c =
-    let k = c.check-number in
-    let s = c.pin_step in
     let a = c.args in
-    called (pin_step a.node) (machine a.hda a.host a.lists.now a.queues.now a.memory.now) k.result k.ensures
-    (done_of s.result a.lists.now a.queues.now s.new.memory) c.if-number-ne0.false (s.ensures a.lists.now a.queues.now)
+    let s = c.pin_step in
+    let x : Machine = machine a.hda a.host a.lists.now a.queues.now a.memory.now in
+    called (pin_step a.node) x 0 c.in_default.ensures
+    (done_of s.result a.lists.now a.queues.now s.new.memory) refl (s.ensures a.lists.now a.queues.now)

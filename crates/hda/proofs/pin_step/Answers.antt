@@ -1,7 +1,5 @@
 -- `pin_step` meets its contract: nothing where no one listens, else the pin's response and the interrupt. Assumes nothing.
 use mathlib.Core.Path.{sym, ◌∙◌}
-use borrow.Author.Rules.{rules}
-use borrow.Author.Tests.{not-true, not-false}
 use Rattle.device.specs.Machines.{machine, commanded}
 use Rattle.hda.proofs.Changing.{listening-node, pin-quiet, pin-done}
 use Rattle.hda.proofs.pin_step.Goals as goal
@@ -12,14 +10,14 @@ returns-then-not-is_listening c =
     let a = c.args in
     pin-quiet a.node (machine a.hda a.host lists queues a.memory.now) c.answer.result (sym c.is_listening.ensures ∙ c.if-not-is_listening.true) c.answer.ensures
 
-pub respond-d-requires : goal.respond-d-requires
-respond-d-requires c =
+pub respond-requires : goal.respond-requires
+respond-requires c =
     (c.requires, listening-node c.args.hda c.args.node (sym c.is_listening.ensures ∙ c.if-not-is_listening.false))
 
 pub returns : goal.returns
 returns c =
     λ lists queues.
-    let p = c.respond-d in
+    let p = c.respond in
     let a = c.args in
     pin-done a.node (machine a.hda a.host lists queues a.memory.now) (commanded p.result p.new.memory) c.finish.result
     (sym c.is_listening.ensures ∙ c.if-not-is_listening.false) p.ensures c.finish.ensures

@@ -3,7 +3,6 @@ use Prim.Native.Nat.{ℕ, ◌+◌}
 use mathlib.Core.Path.{refl, ap, ◌∙◌}
 use mathlib.Core.List.{[], ◌∷◌}
 use native.Mathlib.Omega.{arith}
-use borrow.Author.Rules.{rules}
 use Rattle.word.specs.Place.{put_at}
 use Rattle.word.proofs.Place.{store-put}
 use Rattle.record.specs.Devices.{flag}
@@ -17,4 +16,4 @@ returns c =
     let into = c.args.into.now in
     put_then at (at + 1) _ into (omega arith) (flag q.live ∷ []) refl
     (c.put.ensures ∙ ap (λ (x : ℕ). put_at at (x ∷ []) into) c.flag_byte.ensures)
-    (c.put32.ensures ∙ store-put 4 (at + 1) q.length c.put.new.into)
+    (c.put-2.ensures ∙ store-put 4 (at + 1) q.length c.put.new.into)

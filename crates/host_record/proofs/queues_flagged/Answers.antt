@@ -1,46 +1,18 @@
--- `queues_flagged` is `queues_flagged`. The loop's invariant: the queues from `index` on decide. The measure is the number of queues left.
-use Prim.Native.Nat.{◌-◌, ◌≤◌}
-use mathlib.Core.Path.{◌≡◌, refl, sym, ◌∙◌}
-use native.Mathlib.Omega.{arith}
+-- `queues_flagged` is `queues_flagged`: the closure tests one queue.
+use Prim.Native.Nat.{ℕ}
+use mathlib.Core.Path.{◌∙◌, refl}
+use borrow.Author.Rules.{rules}
+use Rattle.std.proofs.Common.{tests}
+use Rattle.std.proofs.lemmas.Iterator.{YieldsList-from_range}
+use Rattle.std.proofs.lemmas.Iterator.Search.{all_from_yields_List}
 use Rattle.stream.specs.Box.{streams}
-use Rattle.host_record.specs.Hosts.{queues_flagged}
-use Rattle.host_record.proofs.Scan.{flagged-more, flagged-stop, flagged-end}
+use Rattle.record.specs.Loads.{is_flag_at}
+use Rattle.host_record.specs.Hosts.{queue_place}
+use Rattle.host_record.proofs.Scan.{flagged_list}
 use Rattle.host_record.proofs.queues_flagged.Goals as goal
-
-pub loop-index-init : goal.loop-index-init
-loop-index-init c =
-    (omega arith, refl)
-
-pub overflow_mul-index : goal.overflow_mul-index
-overflow_mul-index c =
-    omega arith
-
-pub overflow_add-index : goal.overflow_add-index
-overflow_add-index c =
-    omega arith
-
-pub bounds-from-index : goal.bounds-from-index
-bounds-from-index c =
-    omega arith
-
-pub returns-then-from-index-gt1 : goal.returns-then-from-index-gt1
-returns-then-from-index-gt1 c =
-    let from = c.args.from.now in
-    sym (flagged-stop streams c.loop-index.index from (omega arith) c.if-from-index-gt1.true) ∙ c.loop-index.invariant.1
-
-pub overflow_add-index-in-loop-index : goal.overflow_add-index-in-loop-index
-overflow_add-index-in-loop-index c =
-    omega arith
-
-pub loop-index-smaller : goal.loop-index-smaller
-loop-index-smaller c =
-    omega arith
-
-pub loop-index-preserved : goal.loop-index-preserved
-loop-index-preserved c =
-    let from = c.args.from.now in
-    (omega arith, sym (flagged-more streams c.loop-index.index from (omega arith) c.if-from-index-gt1.false) ∙ c.loop-index.invariant.1)
 
 pub returns : goal.returns
 returns c =
-    sym (flagged-end streams c.loop-index.index c.args.from.now (omega arith)) ∙ c.loop-index.invariant.1
+    let from = c.args.from.now in
+    all_from_yields_List (λ (k : ℕ). is_flag_at (queue_place k) from) _ _ c.all.result c.all.ensures.ran (YieldsList-from_range 0 streams streams refl refl) (λ x b q called. search (rules, tests))
+    ∙ flagged_list from streams 0

@@ -3,7 +3,6 @@ use Prim.Native.Nat.{ℕ}
 use mathlib.Core.Path.{◌≡◌, refl, sym, ap, ◌∙◌}
 use mathlib.Core.List.{List, [], ◌∷◌}
 use native.Mathlib.Omega.{arith}
-use borrow.Author.Rules.{rules}
 use Rattle.word.specs.Place.{put_at}
 use Rattle.record.specs.Devices.{flag}
 use Rattle.record.proofs.Puts.{put_then, store_then, put_all}
@@ -19,5 +18,5 @@ returns c =
     let two = flag h.playback ∷ flag h.capture ∷ [] in
     let told : c.flag_byte.result ∷ c.flag_byte-2.result ∷ [] ≡ two = rw (c.flag_byte.ensures, c.flag_byte-2.ensures) in
     put_then 0 2 _ into (omega arith) two refl (c.put.ensures ∙ ap (λ (bs : List ℕ). put_at 0 bs into) told)
-    (store_then 2 6 _ c.put.new.into (omega arith) 4 h.downstream refl c.put32.ensures c.put_queues.ensures)
+    (store_then 2 6 _ c.put.new.into (omega arith) 4 h.downstream refl c.put-2.ensures c.put_queues.ensures)
     ∙ put_all (host_bytes h) into (length-host h ∙ sym c.requires)

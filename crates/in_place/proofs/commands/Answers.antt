@@ -7,9 +7,9 @@ use Rattle.in_place.proofs.commands.Goals as goal
 
 pub returns-then-rests : goal.returns-then-rests
 returns-then-rests c =
-    let word = c.get16-responses in
-    let dma = c.dma_enabled_in-dma in
-    let a = c.args in record { memory_after = commands-nothing a.device.now a.memory.now dma.result dma.ensures word.result word.ensures (sym c.rests.ensures ∙ c.if-rests.true); device_after = c.requires.1 }
+    let word = c.get-responses in
+    let dma = c.dma_enabled-dma in
+    let a = c.args in record { memory_after = commands-nothing a.device.now a.memory.now dma.result dma.ensures c.from.result (search rules) (sym c.rests.ensures ∙ c.if-rests.true); device_after = c.requires.1 }
 
 pub commands-next-requires : goal.commands-next-requires
 commands-next-requires c =
@@ -20,7 +20,7 @@ replace_link-requires c =
     let ran = c.commands-next in
     let link = c.load_link in
     let own = c.load_block-regs in
-    let dma = c.dma_enabled_in-dma in
+    let dma = c.dma_enabled-dma in
     let a = c.args in (
       c.requires.0,
       c.requires.1,
@@ -39,7 +39,7 @@ returns c =
     let ran = c.commands-next in
     let link = c.load_link in
     let own = c.load_block-regs in
-    let dma = c.dma_enabled_in-dma in
+    let dma = c.dma_enabled-dma in
     let a = c.args in record {
       memory_after = commands-ran a.device.now a.memory.now dma.result dma.ensures link.result ran.result link.ensures own.result ran.new.regs ran.new.memory own.ensures
           ran.ensures back.new.into regs.new.into back.ensures regs.ensures;

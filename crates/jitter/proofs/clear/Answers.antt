@@ -4,4 +4,4 @@ use Rattle.jitter.proofs.clear.Goals as goal
 
 pub returns : goal.returns
 returns c =
-    rw (c.clear.ensures, c.clear-2.ensures, c.clear-3.ensures)
+    rw (c.fill.ensures.after (λ y e. e), c.fill-2.ensures.after (λ y e. e), c.fill-3.ensures.after (λ y e. e))

@@ -1,28 +1,24 @@
--- `counts` meets its contract. The invariant: those below `index` are found. Assumes nothing.
-use Prim.Native.Nat.{ℕ, ◌-◌, ◌≤◌, ◌<◌}
-use mathlib.Core.Path.{◌≡◌, refl, ◌∙◌}
+-- `counts` meets its contract: each call of the closure finds one count.
+use Prim.Native.Nat.{ℕ, ◌+◌, ◌*◌}
+use mathlib.Core.Path.{◌≡◌, ap, sym, ◌∙◌}
+use mathlib.Core.List.{List}
 use native.Mathlib.Omega.{arith}
-use lib.ListN.{length, get_or, length-set}
-use Rattle.device.specs.Devices.{stream_at}
-use Rattle.record.specs.Loads.{device_at}
-use Rattle.jitter.proofs.Cases.{row-turn, count-loaded}
 use borrow.Author.Rules.{rules}
+use lib.ListN.{get_or}
+use Rattle.stream.specs.declared.Stream.{Stream}
+use Rattle.stream.specs.Box.{streams}
+use Rattle.record.specs.Loads.{stream_at}
+use Rattle.record.proofs.Rows.{made_row}
+use Rattle.record.proofs.Places.{row_at}
+use Rattle.record.proofs.Theorems.{stream-loaded}
 use Rattle.jitter.proofs.counts.Goals as goal
-
-pub loop-index-init : goal.loop-index-init
-loop-index-init c =
-    (omega arith, refl, λ j h. absurd (omega arith))
-
-pub loop-index-preserved : goal.loop-index-preserved
-loop-index-preserved c =
-    let l = c.loop-index in
-    let d = c.args.device.now in
-    let s = c.load_stream-s in (
-      omega arith,
-      length-set l.found l.index s.result.submitted ∙ l.invariant.1,
-      row-turn (λ (i : ℕ). (stream_at (device_at d) i).submitted) l.found l.index s.result.submitted (omega arith) l.invariant.1 (count-loaded d l.index s.result (omega arith) s.ensures) l.invariant.2,
-    )
 
 pub returns : goal.returns
 returns c =
-    record { each = λ i few. c.loop-index.invariant.2 i (omega arith) }
+    let d = c.args.device.now in
+    let own = λ (k : ℕ). (stream_at (680 + 34 * k) d).submitted in
+    let made = made_row _ own _ (λ i y q called. search rules) c.from_fn.result streams c.from_fn.ensures.items in record {
+      each = λ i few.
+          let place : 0 + i ≡ i = omega arith in
+          ap (λ (l : List ℕ). get_or l i 0) made ∙ row_at 0 own streams 0 i few ∙ ap own place ∙ ap (λ (k : Stream). k.submitted) (sym (stream-loaded d i few));
+    }

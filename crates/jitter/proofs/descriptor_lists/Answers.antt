@@ -12,7 +12,7 @@ use Rattle.jitter.proofs.descriptor_lists.Goals as goal
 
 pub loop-index-init : goal.loop-index-init
 loop-index-init c =
-    (refl, streams, refl, refl)
+    (streams, refl, refl)
 
 pub loop-index-preserved : goal.loop-index-preserved
 loop-index-preserved c =
@@ -22,12 +22,12 @@ loop-index-preserved c =
     let r = c.args.regs.now in
     let into = w.new.into in
     let put : into ≡ window_of m (list_at r l.index) list_window l.into = w.ensures ∙ ap (λ (k : ℕ). window_of m k list_window l.into) c.base-list.ensures in
-    let k = each_step always (λ (i : ℕ). window_of m (list_at r i) list_window) streams l.index l.invariant.1 l.into into l.invariant.2 c.loop-index-test.true put refl in
-    (w.auto.into ∙ l.invariant.0, k.0, k.1, sym k.2 ∙ l.invariant.3)
+    let k = each_step always (λ (i : ℕ). window_of m (list_at r i) list_window) streams l.index l.invariant.0 l.into into l.invariant.1 c.loop-index-test.true put refl in
+    (k.0, k.1, sym k.2 ∙ l.invariant.2)
 
 pub returns : goal.returns
 returns c =
     let l = c.loop-index in
     let m = c.args.memory.now in
     let r = c.args.regs.now in
-    sym (each-end always (λ (i : ℕ). window_of m (list_at r i) list_window) streams l.index l.invariant.1 l.into l.invariant.2 c.loop-index-test.false) ∙ l.invariant.3
+    sym (each-end always (λ (i : ℕ). window_of m (list_at r i) list_window) streams l.index l.invariant.0 l.into l.invariant.1 c.loop-index-test.false) ∙ l.invariant.2

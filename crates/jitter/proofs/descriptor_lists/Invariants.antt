@@ -12,9 +12,5 @@ use Rattle.jitter.proofs.descriptor_lists.Given as goal
 
 abbrev pub invariant-loop-index : goal.invariant-loop-index
 invariant-loop-index l =
-    (length l.into ≡ length l.initial.into) × (n : ℕ) × (l.index + n ≡ l.count)
+    (n : ℕ) × (l.index + n ≡ streams)
     × (each_of always (λ (i : ℕ). window_of l.memory (list_at l.regs i) list_window) n l.index l.into ≡ windows_of (list_at l.regs) (λ (i : ℕ). list_window) l.memory l.initial.into)
-
-abbrev pub decreases-loop-index : goal.decreases-loop-index
-decreases-loop-index l =
-    l.count - l.index

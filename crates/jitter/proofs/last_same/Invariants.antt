@@ -10,13 +10,10 @@ use Rattle.registers.specs.Places.{fmt}
 use Rattle.record.specs.Loads.{device_at}
 use Rattle.record.proofs.Theorems.{stream-loaded}
 use Rattle.counts.specs.Counts.{movable_of}
+use Rattle.stream.specs.Box.{streams}
 use Rattle.jitter.proofs.Cases.{own-regs, lasting-turn}
 use Rattle.jitter.proofs.last_same.Given as goal
 
 abbrev pub invariant-loop-index : goal.invariant-loop-index
 invariant-loop-index l =
-    (l.index ≤ l.count) × (l.nanos ≤ l.end) × (l.end ≤ l.longest) × ((j : ℕ) → j < l.index → movable_of (device_at l.device) l.host j l.nanos ≡ movable_of (device_at l.device) l.host j l.end)
-
-abbrev pub decreases-loop-index : goal.decreases-loop-index
-decreases-loop-index l =
-    l.count - l.index
+    (l.nanos ≤ l.end) × (l.end ≤ l.longest) × ((j : ℕ) → j < l.index → movable_of (device_at l.device) l.host j l.nanos ≡ movable_of (device_at l.device) l.host j l.end)

@@ -9,4 +9,4 @@ returns-then-capture c =
 
 pub returns : goal.returns
 returns c =
-    movable-room c.args.capture c.args.queued c.frames_by-frames.result _ c.difference.result c.least.result (search rules) c.frames_by-frames.ensures c.difference.ensures c.least.ensures
+    movable-room c.args.capture c.args.queued c.frames_by-frames.result _ c.saturating_sub.result c.min.result (search rules) c.frames_by-frames.ensures (search rules) (search rules)

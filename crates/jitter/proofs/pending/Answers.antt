@@ -17,7 +17,7 @@ use Rattle.jitter.proofs.pending.Goals as goal
 
 pub loop-index-init : goal.loop-index-init
 loop-index-init c =
-    (refl, streams, refl, refl)
+    (streams, refl, refl)
 
 pub loop-index-preserved : goal.loop-index-preserved
 loop-index-preserved c =
@@ -29,8 +29,8 @@ loop-index-preserved c =
     let into = w.new.into in
     let e : s.result.pending ≡ (stream_at (device_at d) l.index).pending = ap (λ (k : Stream). k.pending) (s.ensures ∙ sym (stream-loaded d l.index (omega arith))) in
     let put : into ≡ window_of lists (list_size * l.index) (8 * (stream_at (device_at d) l.index).pending) l.into = w.ensures ∙ ap (λ (k : ℕ). window_of lists (list_size * l.index) (8 * k) l.into) e in
-    let k = each_step always (λ (i : ℕ). window_of lists (list_size * i) (8 * (stream_at (device_at d) i).pending)) streams l.index l.invariant.1 l.into into l.invariant.2 c.loop-index-test.true put refl in
-    (w.auto.into ∙ l.invariant.0, k.0, k.1, sym k.2 ∙ l.invariant.3)
+    let k = each_step always (λ (i : ℕ). window_of lists (list_size * i) (8 * (stream_at (device_at d) i).pending)) streams l.index l.invariant.0 l.into into l.invariant.1 c.loop-index-test.true put refl in
+    (k.0, k.1, sym k.2 ∙ l.invariant.2)
 
 pub returns : goal.returns
 unfolding pending_of
@@ -38,4 +38,4 @@ returns c =
     let l = c.loop-index in
     let lists = c.args.lists.now in
     let d = c.args.device.now in
-    sym (each-end always (λ (i : ℕ). window_of lists (list_size * i) (8 * (stream_at (device_at d) i).pending)) streams l.index l.invariant.1 l.into l.invariant.2 c.loop-index-test.false) ∙ l.invariant.3
+    sym (each-end always (λ (i : ℕ). window_of lists (list_size * i) (8 * (stream_at (device_at d) i).pending)) streams l.index l.invariant.0 l.into l.invariant.1 c.loop-index-test.false) ∙ l.invariant.2

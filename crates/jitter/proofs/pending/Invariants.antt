@@ -17,9 +17,5 @@ use Rattle.jitter.proofs.pending.Given as goal
 
 abbrev pub invariant-loop-index : goal.invariant-loop-index
 invariant-loop-index l =
-    (length l.into ≡ length l.initial.into) × (n : ℕ) × (l.index + n ≡ l.count)
+    (n : ℕ) × (l.index + n ≡ streams)
     × (each_of always (λ (i : ℕ). window_of l.lists (list_size * i) (8 * (stream_at (device_at l.device) i).pending)) n l.index l.into ≡ windows_of (λ (i : ℕ). list_size * i) (λ (i : ℕ). 8 * (stream_at (device_at l.device) i).pending) l.lists l.initial.into)
-
-abbrev pub decreases-loop-index : goal.decreases-loop-index
-decreases-loop-index l =
-    l.count - l.index

@@ -15,20 +15,20 @@ use Rattle.jitter.proofs.put_result.Goals as goal
 
 pub loop-index-init : goal.loop-index-init
 loop-index-init c =
-    (refl, streams, refl, refl)
+    (streams, refl, refl)
 
 pub loop-index-preserved : goal.loop-index-preserved
 loop-index-preserved c =
     let l = c.loop-index in
     let r = c.args.spread in
-    let low = c.put64 in
-    let high = c.put64-in-loop-index in
+    let low = c.put in
+    let high = c.put-in-loop-index in
     let into = high.new.s in
     let put : into ≡ row r l.index l.into = high.ensures ∙ ap (store_at 8 (row_size * l.index + 8) (get_or r.highest l.index 0)) low.ensures in
-    let k = each_step always (row r) streams l.index l.invariant.1 l.into into l.invariant.2 c.loop-index-test.true put refl in
-    (high.auto.s ∙ low.auto.s ∙ l.invariant.0, k.0, k.1, sym k.2 ∙ l.invariant.3)
+    let k = each_step always (row r) streams l.index l.invariant.0 l.into into l.invariant.1 c.loop-index-test.true put refl in
+    (k.0, k.1, sym k.2 ∙ l.invariant.2)
 
 pub returns : goal.returns
 returns c =
     let l = c.loop-index in
-    sym (each-end always (row c.args.spread) streams l.index l.invariant.1 l.into l.invariant.2 c.loop-index-test.false) ∙ l.invariant.3
+    sym (each-end always (row c.args.spread) streams l.index l.invariant.0 l.into l.invariant.1 c.loop-index-test.false) ∙ l.invariant.2

@@ -18,8 +18,4 @@ row r i l = store_at 8 (row_size * i + 8) (get_or r.highest i 0) (store_at 8 (ro
 
 abbrev pub invariant-loop-index : goal.invariant-loop-index
 invariant-loop-index l =
-    (length l.into ≡ length l.initial.into) × (n : ℕ) × (l.index + n ≡ l.count) × (each_of always (row l.spread) n l.index l.into ≡ each_of always (row l.spread) l.count 0 l.initial.into)
-
-abbrev pub decreases-loop-index : goal.decreases-loop-index
-decreases-loop-index l =
-    l.count - l.index
+    (n : ℕ) × (l.index + n ≡ streams) × (each_of always (row l.spread) n l.index l.into ≡ each_of always (row l.spread) streams 0 l.initial.into)

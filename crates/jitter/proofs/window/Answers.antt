@@ -12,4 +12,4 @@ returns-then-size-at c =
 pub returns : goal.returns
 returns c =
     let a = c.args in
-    window-some a.from.now a.into.now a.at a.count c.requires (omega arith) c.lesser-n.result c.lesser-n.ensures c.copy.new.into c.copy.ensures
+    window-some a.from.now a.into.now a.at a.count c.requires (omega arith) c.min-n.result (search rules) c.copy.new.into c.copy.ensures

@@ -1,51 +1,34 @@
--- `pci::sources` meets its contract. The invariant is the scan's. Assumes nothing.
-use Prim.Native.Nat.{◌-◌}
-use mathlib.Core.Path.{◌∙◌}
-use native.Mathlib.Omega.{arith}
-use Rattle.pci.proofs.Scan.{Scan, bit-bound, scan-start, scan-turn, scan-end}
+-- `pci::sources` meets its contract: its loop is the scan's. Assumes nothing.
+use Rattle.std.proofs.Common.{true, false, sym, ap, ◌∙◌, arith, ◌+◌, ℕ}
+use Rattle.pci.specs.Interrupts.{sources_of}
+use Rattle.stream.specs.Box.{streams}
+use Rattle.pci.proofs.Scan.{weights, bit, scan-turn, scan-end}
 use Rattle.pci.proofs.sources.Goals as goal
-
-pub controller-requires : goal.controller-requires
-controller-requires c =
-    omega arith
-
-pub with_bit-found-requires : goal.with_bit-found-requires
-with_bit-found-requires c =
-    omega arith
+use Rattle.pci.proofs.sources.Goals.{then-controller, else-controller, then-stream_status, else-stream_status}
 
 pub loop-index-init : goal.loop-index-init
+unfolding sources_of
 loop-index-init c =
-    scan-start c.args.regs.now c.with_bit-found.result (c.with_bit-found.ensures ∙ rw c.controller.ensures)
-
-pub stream_status-requires : goal.stream_status-requires
-stream_status-requires c =
-    omega arith
-
-pub with_bit-found-requires-in-loop-index : goal.with_bit-found-requires-in-loop-index
-with_bit-found-requires-in-loop-index c =
-    let l = c.loop-index in
-    omega (arith, bit-bound l.index l.bit (omega arith) l.invariant.weight)
-
-pub overflow_mul-bit : goal.overflow_mul-bit
-overflow_mul-bit c =
-    let l = c.loop-index in
-    omega (arith, bit-bound l.index l.bit (omega arith) l.invariant.weight)
-
-pub overflow_add-index : goal.overflow_add-index
-overflow_add-index c =
-    omega arith
-
-pub loop-index-smaller : goal.loop-index-smaller
-loop-index-smaller c =
-    omega arith
+    elim c.if-controller.branch [
+      | then-controller w ↦ record {
+        rest = rw (w.found-is, ← c.controller.ensures, w.if-controller.true);
+        low = omega arith;
+      }
+      | else-controller w ↦ record {
+        rest = rw (w.found-is, ← c.controller.ensures, w.if-controller.false);
+        low = omega arith;
+      }
+    ]
 
 pub loop-index-preserved : goal.loop-index-preserved
 loop-index-preserved c =
-    scan-turn c.args.regs.now _ c.loop-index.found c.loop-index.bit c.loop-index.index c.loop-index.invariant c.with_bit-found-in-loop-index.result (omega arith)
-    (c.with_bit-found-in-loop-index.ensures ∙ rw c.stream_status.ensures)
+    let l = c.loop-index in
+    elim c.if-stream_status.branch [
+      | then-stream_status w ↦ scan-turn _ _ _ l.invariant true _ (omega arith) (sym c.stream_status.ensures ∙ w.if-stream_status.true) (w.found-is ∙ ap (λ (b : ℕ). l.found + b) (bit l.index (omega arith)))
+      | else-stream_status w ↦ scan-turn _ _ _ l.invariant false _ (omega arith) (sym c.stream_status.ensures ∙ w.if-stream_status.false) w.found-is
+    ]
 
 pub returns : goal.returns
-returns c = (
-  scan-end c.args.regs.now _ c.loop-index.found c.loop-index.bit c.loop-index.index c.loop-index.invariant c.loop-index-test.false,
-  omega (arith, bit-bound c.loop-index.index c.loop-index.bit (omega arith) c.loop-index.invariant.weight),
-)
+returns c =
+    let l = c.loop-index in
+    (scan-end _ _ _ l.invariant (omega arith), omega (arith, weights l.index streams (omega arith)))

@@ -1,30 +1,15 @@
--- `plan_at` meets its contract: the descriptor's index is past the last, its address outside memory, or what is fetched decides. Assumes nothing.
-use mathlib.Core.Path.{sym, ◌∙◌}
+-- `plan_at` where the descriptor's address passes 64 bits: it is outside memory. Assumes nothing.
 use native.Mathlib.Omega.{arith}
-use Rattle.memory.specs.declared.Fetched.TheVariants.{Outside, Entry}
+use borrow.Author.Tests.{le-ltb}
 use Rattle.memory.proofs.Laws.{descriptor-outside}
-use Rattle.plan.specs.Plans.{descriptor_at}
-use Rattle.plan.proofs.Laws.{plan-past, plan-fetched}
+use Rattle.plan.specs.Plans.{descriptor_at, plan_of}
 use Rattle.plan.proofs.plan_at.Goals as goal
 
-pub returns-then-s-g : goal.returns-then-s-g
-returns-then-s-g c =
+pub returns-in_default : goal.returns-in_default
+unfolding plan_of
+returns-in_default c =
     let a = c.args in
-    plan-past a.g a.s a.memory.now a.left (omega arith)
-
-pub returns-then-list-place : goal.returns-then-list-place
-returns-then-list-place c =
-    let a = c.args in
-    plan-fetched a.g a.s a.memory.now a.left Outside (omega arith)
-    (sym (descriptor-outside a.memory.now (descriptor_at a.g a.s) (omega arith)))
-
-pub returns-in-Outside : goal.returns-in-Outside
-returns-in-Outside c =
-    let a = c.args in
-    plan-fetched a.g a.s a.memory.now a.left Outside (omega arith) (sym c.in-Outside.is ∙ c.fetch_descriptor.ensures)
-
-pub returns-in-Entry : goal.returns-in-Entry
-returns-in-Entry c =
-    let a = c.args in
-    c.plan_entry.ensures
-    ∙ plan-fetched a.g a.s a.memory.now a.left (Entry c.in-Entry.d) (omega arith) (sym c.in-Entry.is ∙ c.fetch_descriptor.ensures)
+    rw (
+      le-ltb a.g.lvi a.s.descriptor (omega arith),
+      descriptor-outside a.memory.now (descriptor_at a.g a.s) (omega (arith, c.in_default.ensures, c.from-place.ensures)),
+    )

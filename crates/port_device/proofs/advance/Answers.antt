@@ -1,7 +1,5 @@
 -- `advance` is `behind` `advance_of`: unreadable, or the call on the record, with the host end stored. Assumes nothing.
 use mathlib.Core.Path.{sym, ◌∙◌}
-use borrow.Author.Rules.{rules}
-use borrow.Author.Tests.{not-true, not-false}
 use Rattle.advance.specs.Advance.{advance_of}
 use Rattle.reply.proofs.Records.{machine-device, device-sized, host-sized, host-fits}
 use Rattle.port_device.specs.Calls.{lent}

@@ -1,5 +1,4 @@
 -- `answered` is `answered_of`.
-use borrow.Author.Rules.{rules}
 use Rattle.port_device.proofs.answered.Goals as goal
 
 pub returns : goal.returns

@@ -1,7 +1,5 @@
 -- `bar_write` is `behind` `bar_write_of`: a write to the registers, unreadable, or the call on what the records hold.
 use mathlib.Core.Path.{sym, ◌∙◌}
-use borrow.Author.Rules.{rules}
-use borrow.Author.Tests.{not-true, not-false}
 use Rattle.device.specs.Machines.{done_of}
 use Rattle.hda.specs.Calls.{bar_write_of}
 use Rattle.reply.proofs.Records.{device-sized, host-sized, device-fits, host-fits}

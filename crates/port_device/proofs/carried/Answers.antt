@@ -1,5 +1,4 @@
 -- `carried` is `carried_reply`.
-use borrow.Author.Rules.{rules}
 use Rattle.port_device.proofs.carried.Goals as goal
 
 pub returns : goal.returns

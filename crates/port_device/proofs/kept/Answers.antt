@@ -1,5 +1,4 @@
 -- `kept` is `made_of`: the device stored, and what is returned.
-use borrow.Author.Rules.{rules}
 use Rattle.port_device.proofs.kept.Goals as goal
 
 pub returns : goal.returns

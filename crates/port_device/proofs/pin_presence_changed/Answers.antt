@@ -1,7 +1,5 @@
 -- `pin_presence_changed` is `behind` `pin_of`: unreadable, or the call on what the records hold, which leaves the host end.
 use mathlib.Core.Path.{sym, ◌∙◌}
-use borrow.Author.Rules.{rules}
-use borrow.Author.Tests.{not-true, not-false}
 use Rattle.device.specs.Machines.{done_of}
 use Rattle.hda.specs.Calls.{pin_of}
 use Rattle.reply.proofs.Records.{device-sized, device-fits, host-fits}

@@ -1,7 +1,5 @@
 -- `restore` is `behind` `restored_by`: unreadable, or the call on what the records hold.
 use mathlib.Core.Path.{sym, ap, ◌∙◌}
-use borrow.Author.Rules.{rules}
-use borrow.Author.Tests.{not-true, not-false}
 use Rattle.device.specs.Machines.{done_of}
 use Rattle.restore.specs.Restores.{Restored}
 use Rattle.reply.proofs.Records.{device-sized, host-sized, device-fits, host-fits}

@@ -1,7 +1,5 @@
 -- `set_paused` is `paused_of`: unreadable, or the pause on what the records hold.
 use mathlib.Core.Path.{sym, ◌∙◌}
-use borrow.Author.Rules.{rules}
-use borrow.Author.Tests.{not-true, not-false}
 use lib.ListN.{length}
 use Rattle.reply.proofs.Records.{device-sized, device-fits, host-fits}
 use Rattle.port_device.proofs.Outcomes.{paused-unreadable, paused-done}

@@ -1,6 +1,5 @@
 -- `stored` is `stored_of`: the host end stored, and then as `kept`.
 use mathlib.Core.Path.{ap}
-use borrow.Author.Rules.{rules}
 use Rattle.host_record.specs.Hosts.{host_bytes}
 use Rattle.port_device.specs.Calls.{Made, stored_out}
 use Rattle.port_device.proofs.stored.Goals as goal

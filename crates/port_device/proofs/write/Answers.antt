@@ -1,7 +1,6 @@
 -- `write` is `behind` `write_of`: unreadable, carried out by the fast path, or the call on what the records hold.
-use mathlib.Core.Path.{sym, ◌∙◌}
-use borrow.Author.Rules.{rules}
-use borrow.Author.Tests.{not-true, not-false}
+use mathlib.Core.Path.{sym, ap, ◌∙◌}
+use Rattle.std.specs.Option.{is_some}
 use Rattle.device.specs.Machines.{machine, done_of}
 use Rattle.write.specs.Writes.{write_of}
 use Rattle.record.specs.Loads.{device_at}
@@ -9,7 +8,7 @@ use Rattle.fastpath.specs.Quick.{tried}
 use Rattle.fastpath.proofs.Tries.{write_kept, write-carried}
 use Rattle.reply.proofs.Records.{machine-device, device-sized, host-sized, device-fits, host-fits}
 use Rattle.port_device.specs.Calls.{lent, returned}
-use Rattle.port_device.proofs.Outcomes.{unreadable-outcome, done-outcome, carried-outcome, left-outcome, left-machine}
+use Rattle.port_device.proofs.Outcomes.{unreadable-outcome, done-outcome, tried_reply, carried-outcome, left-outcome, left-machine}
 use Rattle.port_device.proofs.write.Goals as goal
 
 pub returns-then-not-is_machine : goal.returns-then-not-is_machine
@@ -23,51 +22,51 @@ load_host-h-requires c =
     let a = c.args in
     host-fits a.device.now a.host.now (sym c.is_machine.ensures ∙ c.if-not-is_machine.false)
 
-pub write-quick-requires : goal.write-quick-requires
-write-quick-requires c =
+pub write-requires : goal.write-requires
+write-requires c =
     let a = c.args in
     let r = sym c.is_machine.ensures ∙ c.if-not-is_machine.false in
     (device-sized a.device.now a.host.now r, machine-device a.device.now a.host.now r)
 
-pub returns-then-quick : goal.returns-then-quick
-returns-then-quick c =
-    let q = c.write-quick in
+pub returns-in-Some : goal.returns-in-Some
+returns-in-Some c =
+    let q = c.write in
     let h = c.load_host-h in
     let a = c.args in
     carried-outcome (write_of a.offset a.bytes.now) (lent a.device.now a.host.now a.lists.now a.queues.now a.memory.now)
     (sym c.is_machine.ensures ∙ c.if-not-is_machine.false) h.result h.ensures (tried q.result q.new.device q.new.memory)
-    (write-carried a.offset a.bytes.now a.device.now (machine (device_at a.device.now) h.result a.lists.now a.queues.now a.memory.now) (tried q.result q.new.device q.new.memory) q.ensures c.if-quick.true)
-    (λ i. (c.slice_known-2-1.given i).fits) c.carried.result c.carried.ensures
+    (write-carried a.offset a.bytes.now a.device.now (machine (device_at a.device.now) h.result a.lists.now a.queues.now a.memory.now) (tried q.result q.new.device q.new.memory) q.ensures (ap is_some c.in-Some.is))
+    (λ i. (c.slice_known-2-1.given i).fits) c.carried.result (c.carried.ensures ∙ ap tried_reply (sym c.in-Some.is))
 
 pub load_device-d-requires : goal.load_device-d-requires
 load_device-d-requires c =
-    let q = c.write-quick in
+    let q = c.write in
     let h = c.load_host-h in
     let a = c.args in
     device-fits q.new.device a.host.now
     (left-machine (write_of a.offset a.bytes.now) (lent a.device.now a.host.now a.lists.now a.queues.now a.memory.now) (sym c.is_machine.ensures ∙ c.if-not-is_machine.false) h.result h.ensures (tried q.result q.new.device q.new.memory)
-    (write_kept a.offset a.bytes.now a.device.now (machine (device_at a.device.now) h.result a.lists.now a.queues.now a.memory.now) (tried q.result q.new.device q.new.memory) q.ensures c.if-quick.false))
+    (write_kept a.offset a.bytes.now a.device.now (machine (device_at a.device.now) h.result a.lists.now a.queues.now a.memory.now) (tried q.result q.new.device q.new.memory) q.ensures c.in-None.is))
 
 pub stored-requires : goal.stored-requires
 stored-requires c =
-    let q = c.write-quick in
+    let q = c.write in
     let h = c.load_host-h in
     let a = c.args in
     let r =
     left-machine (write_of a.offset a.bytes.now) (lent a.device.now a.host.now a.lists.now a.queues.now a.memory.now) (sym c.is_machine.ensures ∙ c.if-not-is_machine.false) h.result h.ensures (tried q.result q.new.device q.new.memory)
-    (write_kept a.offset a.bytes.now a.device.now (machine (device_at a.device.now) h.result a.lists.now a.queues.now a.memory.now) (tried q.result q.new.device q.new.memory) q.ensures c.if-quick.false) in
+    (write_kept a.offset a.bytes.now a.device.now (machine (device_at a.device.now) h.result a.lists.now a.queues.now a.memory.now) (tried q.result q.new.device q.new.memory) q.ensures c.in-None.is) in
     (device-sized q.new.device a.host.now r, host-sized q.new.device a.host.now r)
 
-pub returns : goal.returns
-returns c =
+pub returns-in-None : goal.returns-in-None
+returns-in-None c =
     let s = c.stored in
     let k = c.write-a in
     let d = c.load_device-d in
-    let q = c.write-quick in
+    let q = c.write in
     let h = c.load_host-h in
     let a = c.args in
     let m = sym c.is_machine.ensures ∙ c.if-not-is_machine.false in
-    let l = write_kept a.offset a.bytes.now a.device.now (machine (device_at a.device.now) h.result a.lists.now a.queues.now a.memory.now) (tried q.result q.new.device q.new.memory) q.ensures c.if-quick.false in
+    let l = write_kept a.offset a.bytes.now a.device.now (machine (device_at a.device.now) h.result a.lists.now a.queues.now a.memory.now) (tried q.result q.new.device q.new.memory) q.ensures c.in-None.is in
     left-outcome (write_of a.offset a.bytes.now) (lent a.device.now a.host.now a.lists.now a.queues.now a.memory.now) m h.result h.ensures (tried q.result q.new.device q.new.memory) l
     (returned s.result (lent s.new.device s.new.host a.lists.now a.queues.now k.new.memory))
     (done-outcome (write_of a.offset a.bytes.now) (lent q.new.device a.host.now a.lists.now a.queues.now q.new.memory)

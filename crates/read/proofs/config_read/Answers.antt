@@ -1,21 +1,25 @@
 -- `config_read` meets its contract: refused by the check, or the register shown. Assumes nothing.
-use borrow.Author.Rules.{rules}
 use lib.ListN.{length}
 use Rattle.record.specs.Loads.{device_at}
 use Rattle.read.proofs.Reading.{config-hidden, config-shown}
+use Rattle.device.specs.Machines.{check_of}
+use mathlib.Core.Path.{refl}
+use Rattle.refusal.proofs.Laws.{refused, refused-none, number-nonzero}
 use Rattle.read.proofs.config_read.Goals as goal
 
-pub returns-then-number-ne0 : goal.returns-then-number-ne0
-returns-then-number-ne0 c =
-    let k = c.check-number in
-    let s = c.status_of-s in
+pub returns-in-Err : goal.returns-in-Err
+returns-in-Err c =
     let a = c.args in
-    config-hidden (device_at a.device.now) a.host a.lists.now (length a.queues.now) k.result k.ensures s.result s.ensures a.register c.if-number-ne0.true
+    let d = device_at a.device.now in
+    let n = c.number.result in
+    let same = refused c.check.result (check_of d a.host a.lists.now (length a.queues.now)) c.check.ensures c.in-Err.refusal c.in-Err.is n c.number.ensures in
+    let none = number-nonzero c.in-Err.refusal n c.number.ensures in
+    config-hidden d a.host a.lists.now (length a.queues.now) n same c.status_of-status.result c.status_of-status.ensures a.register none
 
 pub returns : goal.returns
 unfolding device_at
 returns c =
-    let k = c.check-number in
-    let s = c.status_of-s in
     let a = c.args in
-    config-shown (device_at a.device.now) a.host a.lists.now (length a.queues.now) k.result k.ensures s.result s.ensures a.register c.read_in-value.result c.if-number-ne0.false c.read_in-value.ensures
+    let d = device_at a.device.now in
+    let same = refused-none c.check.result (check_of d a.host a.lists.now (length a.queues.now)) c.check.ensures c.in_default.field-0 c.in_default.is in
+    config-shown d a.host a.lists.now (length a.queues.now) 0 same c.status_of-status-2.result c.status_of-status-2.ensures a.register c.read_in.result refl c.read_in.ensures

@@ -1,5 +1,4 @@
 -- `status_of` meets its contract: the level is that of the two files in the record. Assumes nothing.
-use borrow.Author.Rules.{rules}
 use Rattle.record.specs.Loads.{device_at}
 use Rattle.read.specs.Reads.{status_of}
 use Rattle.read.proofs.status_of.Goals as goal
@@ -7,4 +6,4 @@ use Rattle.read.proofs.status_of.Goals as goal
 pub returns : goal.returns
 unfolding status_of device_at
 returns c =
-    rw c.level_in.ensures
+    rw c.level.ensures

@@ -1,6 +1,5 @@
 -- `load_block` is `block_at`: a copy of 256 bytes over all of a fresh block.
 use mathlib.Core.Path.{refl}
-use borrow.Author.Rules.{rules}
 use Rattle.word.proofs.Copies.{copied-out}
 use Rattle.record.proofs.load_block.Goals as goal
 

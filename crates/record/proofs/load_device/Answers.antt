@@ -1,5 +1,4 @@
 -- `load_device` is `device_at`: its parts, each read at its place.
-use borrow.Author.Rules.{rules}
 use Rattle.record.specs.Loads.{device_at}
 use Rattle.record.proofs.load_device.Goals as goal
 

@@ -1,6 +1,5 @@
 -- `put` is `put_at`: a copy of all the bytes over as many at the place.
 use mathlib.Core.Path.{refl}
-use borrow.Author.Rules.{rules}
 use lib.ListN.{length}
 use Rattle.word.proofs.Copies.{copied-in}
 use Rattle.record.proofs.put.Goals as goal

@@ -1,10 +1,9 @@
 -- `put_low` stores a number's two lowest bytes: the others do not count.
 use mathlib.Core.Path.{◌∙◌}
-use borrow.Author.Rules.{rules}
 use Rattle.record.proofs.Puts.{store_low}
 use Rattle.record.proofs.put_low.Goals as goal
 
 pub returns : goal.returns
 returns c =
     let a = c.args in
-    c.put16.ensures ∙ store_low 2 a.at a.v a.into.now
+    c.put.ensures ∙ store_low 2 a.at a.v a.into.now

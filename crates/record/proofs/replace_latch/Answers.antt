@@ -1,13 +1,7 @@
 -- `replace_latch` sets the record's last byte. Assumes nothing.
-use native.Mathlib.Omega.{arith}
-use borrow.Author.Rules.{rules}
 use lib.ListN.{length-set}
 use Rattle.record.proofs.Replaced.{latch-held}
 use Rattle.record.proofs.replace_latch.Goals as goal
-
-pub bounds-into-748 : goal.bounds-into-748
-bounds-into-748 c =
-    omega arith
 
 pub shape_of-into : goal.shape_of-into
 shape_of-into c =

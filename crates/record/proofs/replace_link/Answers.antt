@@ -1,17 +1,7 @@
 -- `replace_link` puts codec and responses over those in the record. Assumes nothing.
-use native.Mathlib.Omega.{arith}
-use borrow.Author.Rules.{rules}
 use Rattle.codec.proofs.Values.{held-well-formed}
 use Rattle.record.proofs.Replaced.{link-held}
 use Rattle.record.proofs.replace_link.Goals as goal
-
-pub store-requires : goal.store-requires
-store-requires c =
-    omega arith
-
-pub put_low-requires : goal.put_low-requires
-put_low-requires c =
-    omega arith
 
 pub returns : goal.returns
 returns c =

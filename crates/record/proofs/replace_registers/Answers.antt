@@ -1,12 +1,7 @@
 -- `replace_registers` puts the registers over those in the record. Assumes nothing.
 use native.Mathlib.Omega.{arith}
-use borrow.Author.Rules.{rules}
 use Rattle.record.proofs.Replaced.{regs-held}
 use Rattle.record.proofs.replace_registers.Goals as goal
-
-pub put-requires : goal.put-requires
-put-requires c =
-    omega arith
 
 pub returns : goal.returns
 returns c =

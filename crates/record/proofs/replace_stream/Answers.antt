@@ -1,6 +1,5 @@
 -- `replace_stream` puts a stream's numbers over those in the record. Assumes nothing.
 use native.Mathlib.Omega.{arith}
-use borrow.Author.Rules.{rules}
 use Rattle.record.proofs.Held.{stream-held}
 use Rattle.record.proofs.Replaced.{stream-put}
 use Rattle.record.proofs.replace_stream.Goals as goal

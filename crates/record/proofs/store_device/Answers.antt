@@ -1,7 +1,6 @@
 -- `store_device` puts `device_bytes`: the head, the streams and the latch, one behind the other.
 use mathlib.Core.Path.{◌∙◌}
 use native.Mathlib.Omega.{arith}
-use borrow.Author.Rules.{rules}
 use lib.ListN.{length-set}
 use Rattle.record.proofs.Held.{held-sized}
 use Rattle.record.proofs.Stores.{device-put}

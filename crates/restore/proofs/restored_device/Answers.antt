@@ -28,4 +28,4 @@ pub returns : goal.returns
 returns c =
     let a = c.args in
     device-made a.strict a.state.now a.hda c.load_clock.ensures c.later-clock.ensures c.shown.ensures c.load_block-regs.ensures
-    c.put32_in.ensures c.load_block.ensures c.load_link.ensures c.restored_streams.ensures
+    c.put.ensures c.load_block.ensures c.load_link.ensures c.restored_streams.ensures

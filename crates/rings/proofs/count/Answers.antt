@@ -1,17 +1,13 @@
--- `count` reports where the responses have reached the threshold. Assumes nothing.
-use mathlib.Core.Path.{◌≡◌, ap}
-use mathlib.Core.List.{[]}
-use native.Mathlib.Omega.{arith}
-use borrow.Author.Rules.{rules}
-use borrow.Author.Tests.{le-leb, lt-leb}
+-- Where the responses have reached the threshold, they are reported.
+use Rattle.std.proofs.Common.{◌≡◌, [], ap, arith}
+use borrow.Author.Tests.{le-leb}
 use Rattle.rings.specs.Rings.{Rings}
 use Rattle.rings.proofs.count.Goals as goal
 
-pub returns-then-link-threshold : goal.returns-then-link-threshold
-returns-then-link-threshold c =
-    record { by_index = λ m. rw (← c.threshold.ensures.0, lt-leb _ _ c.if-link-threshold.true); responses_bound = omega arith }
+pub returns-else-link-threshold-clause-by_index : goal.returns-else-link-threshold-clause-by_index
+returns-else-link-threshold-clause-by_index c = λ m. rw (← c.threshold.ensures.0, le-leb _ _ c.if-link-threshold.false) (c.report.ensures m)
 
-pub returns : goal.returns
-returns c =
+pub returns-else-link-threshold-clause-responses_bound : goal.returns-else-link-threshold-clause-responses_bound
+returns-else-link-threshold-clause-responses_bound c =
     let zero : c.report.result.responses ≡ 0 = ap (λ (x : Rings). x.link.responses) (c.report.ensures []) in
-    record { by_index = λ m. rw (← c.threshold.ensures.0, le-leb _ _ c.if-link-threshold.false) (c.report.ensures m); responses_bound = omega arith }
+    omega arith

@@ -1,8 +1,5 @@
--- `put_response` writes the response's eight bytes, or its place lies past 64 bits and so outside memory. Assumes nothing.
-use mathlib.Core.Path.{sym, ap, ◌∙◌}
-use mathlib.Core.List.{◌++◌}
-use native.Mathlib.Omega.{arith}
-use borrow.Author.Rules.{rules}
+-- A place past 64 bits is outside memory.
+use Rattle.std.proofs.Common.{ℕ, ◌≡◌, sym, ap, ◌∙◌, ◌++◌, arith}
 use Rattle.word.specs.Value.{bytes_of}
 use Rattle.word.specs.Place.{store_at}
 use Rattle.memory.specs.Memory.{write_of}
@@ -11,14 +8,15 @@ use Rattle.rings.specs.Rings.{entry_at}
 use Rattle.rings.proofs.Laws.{entry-bytes}
 use Rattle.rings.proofs.put_response.Goals as goal
 
-pub returns-then-start-offset : goal.returns-then-start-offset
-returns-then-start-offset c =
+pub returns-in_default : goal.returns-in_default
+returns-in_default c =
     let a = c.args in
-    sym (write-outside a.memory.now (entry_at a.base 8 a.place) (bytes_of 4 a.value ++ bytes_of 4 a.extended) (omega arith))
+    sym (write-outside a.memory.now (entry_at a.base 8 a.place) (bytes_of 4 a.value ++ bytes_of 4 a.extended) (omega (arith, c.in_default.ensures)))
 
 pub returns : goal.returns
 returns c =
     let a = c.args in
+    let place : c.in-Some.address ≡ entry_at a.base 8 a.place = omega (arith, c.in-Some.ensures) in
     c.write.ensures
-    ∙ ap (write_of a.memory.now (entry_at a.base 8 a.place))
-    (c.put32-2.ensures ∙ ap (store_at 4 4 a.extended) c.put32.ensures ∙ entry-bytes a.value a.extended)
+    ∙ ap (λ (i : ℕ). write_of a.memory.now i c.put-2.new.s) place
+    ∙ ap (write_of a.memory.now (entry_at a.base 8 a.place)) (c.put-2.ensures ∙ ap (store_at 4 4 a.extended) c.put.ensures ∙ entry-bytes a.value a.extended)

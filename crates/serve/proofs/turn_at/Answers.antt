@@ -17,8 +17,8 @@ use Rattle.record.proofs.Replaced.{regs-lent}
 use Rattle.serve.proofs.Turns.{turn-needs, turn-taken}
 use Rattle.serve.proofs.turn_at.Goals as goal
 
-pub turn-t-requires : goal.turn-t-requires
-turn-t-requires c =
+pub turn-turned-requires : goal.turn-turned-requires
+turn-turned-requires c =
     let a = c.args in
     let i = a.index in
     let x = machine (device_at a.device.now) a.host a.lists.now a.queues.now a.memory.now in
@@ -26,7 +26,7 @@ turn-t-requires c =
 
 pub replace_stream-requires : goal.replace_stream-requires
 replace_stream-requires c =
-    let t = c.turn-t in
+    let t = c.turn-turned in
     let s = c.load_stream-s in
     let a = c.args in
     let i = a.index in
@@ -39,8 +39,8 @@ pub returns : goal.returns
 unfolding device_at
 returns c =
     let put = c.replace_stream in
-    let t = c.turn-t in
-    let link = c.load_link-link in
+    let t = c.turn-turned in
+    let link = c.load_link in
     let s = c.load_stream-s in
     let a = c.args in
     let i = a.index in

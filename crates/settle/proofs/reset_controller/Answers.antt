@@ -1,59 +1,23 @@
--- `reset_controller` meets its contract. The invariant: the streams from `index` on leave what all of them leave of the device as it was where the loop began. Assumes nothing.
-use Prim.Native.Nat.{ℕ, ◌+◌, ◌-◌}
-use mathlib.Core.Path.{◌≡◌, refl, sym, ap, ◌∙◌}
-use native.Mathlib.Omega.{arith}
-use borrow.Author.Rules.{rules}
+-- A turn of the loop is one of the definition's, and so is its end.
+use Rattle.std.proofs.Common.{◌+◌, ◌-◌, sym, ap, ◌∙◌, arith}
 use Rattle.word.specs.Each.{each_of, always}
-use Rattle.word.proofs.Each.{each_step, each-end}
 use Rattle.stream.specs.Box.{streams}
 use Rattle.stream.specs.Streams.{fresh_of}
+use Rattle.registers.proofs.Turns.{each_turn, each_done}
 use Rattle.settle.specs.Settle.{ports, with_channel, reset_at, reset_controller_of}
 use Rattle.settle.proofs.reset_controller.Goals as goal
-
-pub loop-index-init : goal.loop-index-init
-loop-index-init c =
-    (streams, omega arith, refl)
-
-pub offset_bounds-d-index : goal.offset_bounds-d-index
-offset_bounds-d-index c =
-    omega arith
-
-pub bounds-d-index : goal.bounds-d-index
-bounds-d-index c =
-    omega arith
-
-pub reset-a-requires : goal.reset-a-requires
-reset-a-requires c =
-    omega arith
-
-pub offset_bounds-d-index-in-loop-index : goal.offset_bounds-d-index-in-loop-index
-offset_bounds-d-index-in-loop-index c =
-    omega arith
-
-pub bounds-d-index-in-loop-index : goal.bounds-d-index-in-loop-index
-bounds-d-index-in-loop-index c =
-    omega arith
-
-pub overflow_add-index : goal.overflow_add-index
-overflow_add-index c =
-    omega arith
-
-pub loop-index-smaller : goal.loop-index-smaller
-loop-index-smaller c =
-    omega arith
 
 pub loop-index-preserved : goal.loop-index-preserved
 unfolding fresh_of
 loop-index-preserved c =
     let l = c.loop-index in
-    let e = ap (with_channel (ports l.d l.h) l.index) c.reset-a.ensures in
-    let k = each_step always reset_at streams l.index l.invariant.0 (ports l.d l.h) _ l.invariant.1 (omega arith) e refl in
-    (k.0, k.1, sym k.2 ∙ l.invariant.2)
+    let e = ap (with_channel (ports l.d l.h) l.index) c.reset-reset.ensures in
+    ap (each_of always reset_at (streams - (l.index + 1)) (l.index + 1)) e
+    ∙ sym (each_turn reset_at streams l.index (ports l.d l.h) (omega arith))
+    ∙ l.invariant
 
 pub returns : goal.returns
 unfolding reset_controller_of
 returns c =
     let l = c.loop-index in
-    sym (each-end always reset_at streams l.index l.invariant.0 (ports l.d l.h) l.invariant.1 (omega arith))
-    ∙ l.invariant.2
-    ∙ rw c.cleared-d.ensures
+    sym (each_done reset_at streams l.index (ports l.d l.h) (omega arith)) ∙ l.invariant ∙ rw c.cleared-d.ensures

@@ -1,7 +1,6 @@
 -- `answer` is `saved_of`, with the line's level.
-use borrow.Author.Rules.{rules}
 use Rattle.snapshot.proofs.answer.Goals as goal
 
 pub returns : goal.returns
 returns c =
-    rw c.level-level.ensures
+    rw c.level.ensures

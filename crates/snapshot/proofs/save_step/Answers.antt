@@ -1,16 +1,18 @@
 -- `save_step` is `save_step`: the size is tested, then the head and the streams are put one behind the other.
+use mathlib.Core.Path.{ap, ◌∙◌}
+use Prim.Native.Nat.{ℕ}
 use native.Mathlib.Omega.{arith}
-use borrow.Author.Rules.{rules}
 use Rattle.record.proofs.Held.{held-sized}
 use Rattle.snapshot.specs.States.{size_of}
 use Rattle.snapshot.proofs.Sizes.{size-bound}
 use Rattle.snapshot.proofs.Outcomes.{state-put, short, done}
+use Rattle.snapshot.specs.Saves.{saved_of}
 use Rattle.snapshot.proofs.save_step.Goals as goal
 
 pub returns-then-into-bytes : goal.returns-then-into-bytes
 returns-then-into-bytes c =
     let a = c.args in
-    short a.hda a.lists.now a.into.now c.size-bytes.result c.size-bytes.ensures c.answer.result c.if-into-bytes.true c.answer.ensures
+    short a.hda a.lists.now a.into.now c.size-bytes.result c.size-bytes.ensures c.answer.result c.if-into-bytes.true (c.answer.ensures ∙ ap (λ (n : ℕ). saved_of n a.hda 0) c.number.ensures)
 
 -- the size is the head's 680 bytes and more
 pub put_head-requires : goal.put_head-requires

@@ -1,11 +1,9 @@
 -- `size` is `size_of`. The loop's invariant: the bytes so far and those of the streams left are all. The measure is the number of streams left.
-use Prim.Native.Nat.{◌+◌, ◌-◌, ◌≤◌}
-use mathlib.Core.Path.{◌≡◌, refl}
+use mathlib.Core.Path.{refl}
 use native.Mathlib.Omega.{arith}
-use borrow.Author.Rules.{rules}
 use Rattle.stream.specs.Streams.{fresh_of}
 use Rattle.stream.specs.Box.{streams}
-use Rattle.snapshot.specs.States.{sizes_of, size_of}
+use Rattle.snapshot.specs.States.{size_of}
 use Rattle.snapshot.proofs.Sizes.{size-bound}
 use Rattle.snapshot.proofs.Turns.{sizes-next, sizes-end}
 use Rattle.snapshot.proofs.size.Goals as goal
@@ -13,15 +11,7 @@ use Rattle.snapshot.proofs.size.Goals as goal
 pub loop-index-init : goal.loop-index-init
 unfolding size_of
 loop-index-init c =
-    (omega arith, refl)
-
-pub offset_bounds-hda-index : goal.offset_bounds-hda-index
-offset_bounds-hda-index c =
-    omega arith
-
-pub bounds-hda-index : goal.bounds-hda-index
-bounds-hda-index c =
-    omega arith
+    refl
 
 pub overflow_add-bytes : goal.overflow_add-bytes
 unfolding fresh_of
@@ -29,18 +19,10 @@ overflow_add-bytes c =
     let d = c.args.hda in
     omega (arith, sizes-next d streams c.loop-index.index (omega arith), size-bound d c.requires)
 
-pub overflow_add-index : goal.overflow_add-index
-overflow_add-index c =
-    omega arith
-
-pub loop-index-smaller : goal.loop-index-smaller
-loop-index-smaller c =
-    omega arith
-
 pub loop-index-preserved : goal.loop-index-preserved
 unfolding fresh_of
 loop-index-preserved c =
-    (omega arith, omega (arith, sizes-next c.args.hda streams c.loop-index.index (omega arith)))
+    omega (arith, sizes-next c.args.hda streams c.loop-index.index (omega arith))
 
 pub returns : goal.returns
 returns c =

@@ -20,5 +20,5 @@ pub returns-else-connected : goal.returns-else-connected
 returns-else-connected c =
     let a = c.args in
     let n = length a.into.now in
-    subst (λ (b : Bool). c.clear.new.pcm ≡ take n (heard_of b a.left a.right a.pcm.now (length a.pcm.now))) (sym c.if-connected.false)
-    (c.clear.ensures ∙ sym (take-silence n (length a.pcm.now) c.requires))
+    subst (λ (b : Bool). c.fill.new.self ≡ take n (heard_of b a.left a.right a.pcm.now (length a.pcm.now))) (sym c.if-connected.false)
+    (c.fill.ensures.after (λ y e. e) ∙ sym (take-silence n (length a.pcm.now) c.requires))

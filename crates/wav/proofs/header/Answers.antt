@@ -5,4 +5,4 @@ use Rattle.wav.proofs.header.Goals as goal
 
 pub returns : goal.returns
 returns c =
-    rw (c.put32-4.ensures, c.put32-3.ensures, c.put32-2.ensures, c.put32.ensures) (header-stored _ _)
+    rw (c.put-4.ensures, c.put-3.ensures, c.put-2.ensures, c.put.ensures) (header-stored _ _)

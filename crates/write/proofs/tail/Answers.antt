@@ -1,5 +1,4 @@
 -- `tail` meets its contract: the control bits, the flush, the streams. Assumes nothing.
-use borrow.Author.Rules.{rules}
 use Rattle.settle.specs.Settle.{ports}
 use Rattle.write.proofs.Writing.{tail-done}
 use Rattle.write.proofs.tail.Goals as goal
@@ -7,5 +6,5 @@ use Rattle.write.proofs.tail.Goals as goal
 pub returns : goal.returns
 returns c =
     let a = c.args in
-    tail-done a.old.now (ports a.hda a.host) c.controlled-x.result c.settle.result c.flush.new.regs
-    c.controlled-x.ensures c.flush.ensures c.settle.ensures
+    tail-done a.old.now (ports a.hda a.host) c.controlled-ports.result c.settle.result c.flush.new.regs
+    c.controlled-ports.ensures c.flush.ensures c.settle.ensures

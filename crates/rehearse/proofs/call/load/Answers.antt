@@ -5,4 +5,4 @@ use Rattle.rehearse.proofs.call.load.Goals as goal
 pub returns : goal.returns
 unfolding call_at
 returns c =
-    rw (c.get32-2.ensures, c.get64-3.ensures, c.get64-2.ensures, c.get64.ensures, c.get32.ensures, c.get16.ensures)
+    rw (c.get-6.ensures, c.get-5.ensures, c.get-4.ensures, c.get-3.ensures, c.get-2.ensures, c.get.ensures)

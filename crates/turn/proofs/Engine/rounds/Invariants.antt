@@ -1,13 +1,10 @@
 -- `Engine::rounds` meets its contract. The invariant: the rounds from here leave what all of them leave, with fuel enough for the frames that are due, and
 -- the bounds hold. The measure is the frames due. Assumes nothing.
-use Prim.Native.Nat.{ℕ, ◌≤◌, ◌<◌}
-use mathlib.Core.Path.{◌≡◌, refl, sym, ap, ◌∙◌, subst}
-use native.Mathlib.Omega.{arith}
-use borrow.Author.Rules.{rules}
+use Prim.Native.Nat.{ℕ, ◌≤◌}
+use mathlib.Core.Path.{◌≡◌}
 use lib.ListN.{length}
-use Rattle.turn.specs.Engines.{Work, work_of, frames_of, due_of, rounds_of}
-use Rattle.turn.proofs.Facts.{round-due}
-use Rattle.turn.proofs.Rounds.{rounds-more, rounds-end, round_keeps, Within, within}
+use Rattle.turn.specs.Engines.{work_of, due_of, rounds_of}
+use Rattle.turn.proofs.Rounds.{Within}
 use Rattle.turn.proofs.Engine.rounds.Given as goal
 
 abbrev pub invariant-loop-g : goal.invariant-loop-g

@@ -1,0 +1,9 @@
+-- `u32`'s `put_into` meets its contract. Assumes nothing.
+use Rattle.std.proofs.Common.{sym}
+use Rattle.word.proofs.Endian.{bytes4}
+use Rattle.word.proofs.Place.{store-put}
+use Rattle.word.proofs.U32Word.put_into.Goals as goal
+
+pub returns : goal.returns
+returns c =
+    rw (c.put_bytes.ensures, c.to_le_bytes.ensures, bytes4 c.args.self) (sym (store-put 4 c.args.at c.args.self c.args.s.now))

@@ -1,0 +1,9 @@
+-- `u64`'s `put_into` meets its contract. Assumes nothing.
+use Rattle.std.proofs.Common.{sym}
+use Rattle.word.proofs.Endian.{bytes8}
+use Rattle.word.proofs.Place.{store-put}
+use Rattle.word.proofs.U64Word.put_into.Goals as goal
+
+pub returns : goal.returns
+returns c =
+    rw (c.put_bytes.ensures, c.to_le_bytes.ensures, bytes8 c.args.self) (sym (store-put 8 c.args.at c.args.self c.args.s.now))
