@@ -7,7 +7,7 @@ ghost use Rattle.replay.specs.Answers.{answered, format_answer, gain_answer, ver
 use clock::Clock;
 use codec::{Codec, Outcome};
 
-// The answer to a record that begins with `letter`: of the leaf that its capital names.
+// The answer to a record that begins with `letter`: of the leaf that its capital names. The letters are read by this one match; an enum between would be a second.
 #[tactic(auto, unfolding(crate::specs::Answers::answer_of, crate::specs::Answers::leaf_answer))]
 pub fn answer(letter: u8, bytes: &mut [u8]) -> bool
     ensures { answered result bytes.new ≡ answer_of letter bytes.old }
