@@ -13,11 +13,10 @@ mod hex;
 mod lines;
 mod verdict;
 
-ghost use Rattle.std.specs.Prelude.{OnOk, IfSome};
-ghost use Rattle.std.specs.Io.KnownBytes.{Appends};
+ghost use Rattle.std.specs.Prelude.{◌≡◌, ◌<◌, ◌≤◌, IfOk, OnOk, IfSome, length, take};
+ghost use Rattle.std.specs.Io.KnownBytes.{Appends, Consumes, IsAtEnd};
 ghost use Rattle.replay.specs.Printed.{summary_of, output_of};
 
-use std::alloc::Global;
 use std::io::{Read, Write};
 use std::{fs, io};
 use verdict::Tally;
@@ -26,24 +25,45 @@ use verdict::Tally;
 const ROOM: usize = 1048576;
 
 fn main(rt: HostRuntime) -> io::Result<()> {
-    run(
-        rt.alloc(),
-        &mut fs::open(&rt, "answers")?,
-        &mut io::writer(&rt),
-    )
+    run(&mut fs::open(&rt, "answers")?, &mut io::writer(&rt))
 }
 
 // What the program prints of a file's bytes.
-fn run<R: Read, W: Write>(alloc: Global, file: &mut R, out: &mut W) -> io::Result<()>
+fn run<R: Read, W: Write>(file: &mut R, out: &mut W) -> io::Result<()>
     ensures { OnOk result (IfSome (R.remaining file.old) (λ bytes. Appends (W.contents out.old) (W.contents out.new) (output_of bytes))) }
 {
-    let mut data = Vec::new(alloc);
-    file.take(ROOM as u64).read_to_end(&mut data)?;
-    if data.len() == ROOM {
+    let mut data = room();
+    let count = read_full(file, &mut data)?;
+    if count == ROOM {
         return out.write_all(b"answers is too long: there is room for 1048575 bytes\n");
     }
-    let tally = lines::judge_all(out, &data)?;
+    let tally = lines::judge_all(out, &data[..count])?;
     print(out, tally)
+}
+
+// Zeros. The `ensures` gives the length alone, which lending the array as a slice needs.
+fn room() -> [u8; ROOM]
+    ensures { 1048576 ≡ length result }
+{
+    [0; ROOM]
+}
+
+// Reads until the room is full or the file ends: how many bytes, which stand at its start. An array and no `Vec`: a program that allocates
+// rests on more functions of the system, and can run out of memory.
+fn read_full<R: Read>(file: &mut R, room: &mut [u8]) -> io::Result<usize>
+    ensures upper_bound { IfOk result (λ count. count ≤ length room.new) }
+    ensures bytes { IfOk result (λ count. Consumes (R.remaining file.old) (R.remaining file.new) (take count room.new)) }
+    ensures ended { IfOk result (λ count. count < length room.new → IsAtEnd (R.remaining file.new)) }
+{
+    let mut done = 0;
+    while done < room.len() {
+        let count = file.read(&mut room[done..])?;
+        if count == 0 {
+            return Ok(done);
+        }
+        done += count;
+    }
+    Ok(done)
 }
 
 #[tactic(auto, unfolding(crate::specs::Printed::summary_of))]
