@@ -7,7 +7,7 @@ ghost use Rattle.configuration.specs.Configuration.{fresh_of, read_of, write_byt
 // Bytes of a configuration space.
 pub const SIZE: usize = 256;
 
-pub type Config = [u8; SIZE];
+pub type Config = word::File;
 
 // The ICH9's vendor and device, at 0 and again as the subsystem.
 pub const IDENTITY: u32 = 0x293e_8086;

@@ -100,6 +100,9 @@ fn put_bytes<const N: usize>(s: &mut [u8], at: usize, bytes: [u8; N])
     s[at..at + N].copy_from_slice(&bytes);
 }
 
+// One of the device's two 256-byte files: its registers, its configuration space.
+pub type File = [u8; 256];
+
 // Moves the `count` bytes from `from` on to the front, in one pass. With from = 0 nothing moves.
 #[tactic(auto, unfolding(crate::specs::Shift::shift_of))]
 pub fn shift(s: &mut [u8], from: usize, count: usize)
